@@ -1,0 +1,1 @@
+// Arithmetic with bytes in which every byte but 0 can be divided by.
