@@ -1,9 +1,10 @@
 //! A keeper of pieces on drives in memory, written from the rules alone, to compare `rehearse` with.
 //!
 //! `gf`, `pieces`, `slots`, `keeper` and `script` are the keeper; `generate` makes scripts for it,
-//! `promise` says what may be read at all, and `flaws` are mistakes that can be planted, to see
+//! `promise` says what may be read at all, `compare` plays them twice, and `flaws` are mistakes that can be planted, to see
 //! that a comparison finds them.
 
+pub mod compare;
 pub mod flaws;
 pub mod generate;
 pub mod gf;

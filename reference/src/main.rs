@@ -1,4 +1,5 @@
 //! `reference [--break FLAW] N NEED`: plays lines from standard input, as `rehearse` does.
+//! `reference --flaws` names the flaws that can be planted.
 
 use reference::flaws;
 use reference::script::Rehearsal;
@@ -32,6 +33,10 @@ fn play(mut rehearsal: Rehearsal) -> io::Result<()> {
 }
 
 fn main() -> ExitCode {
+    if std::env::args().skip(1).eq(["--flaws"]) {
+        flaws::FLAWS.iter().for_each(|(name, _)| println!("{name}"));
+        return ExitCode::SUCCESS;
+    }
     let Some(rehearsal) = arguments() else {
         eprintln!("{USAGE}");
         return ExitCode::from(2);

@@ -38,7 +38,7 @@ fn number(word: &str) -> Result<u64, String> {
     Ok(digits.fold(0, |number: u64, digit| number.saturating_mul(10).saturating_add(digit)))
 }
 
-fn hexadecimal(word: &str) -> Result<Vec<u8>, String> {
+pub fn hexadecimal(word: &str) -> Result<Vec<u8>, String> {
     let digit = |byte: u8| char::from(byte).to_digit(16).map(|digit| digit as u8);
     let pair = |pair: &[u8]| match pair {
         [high, low] => Some(digit(*high)? << 4 | digit(*low)?),
