@@ -3,7 +3,10 @@
 use crate::flaws::Flaw;
 use crate::generate::Script;
 use crate::promise::Promise;
-use crate::script::{parse, Rehearsal};
+use crate::script::{parse, Command, Rehearsal};
+
+/// Pairs of lines are tried only in scripts of at most so many.
+const MOST_FOR_PAIRS: usize = 60;
 
 /// What is wrong at one line of a script, counted from 0.
 #[derive(Clone, Debug)]
@@ -31,7 +34,8 @@ pub fn play(script: &Script, flaw: Option<Flaw>) -> Played {
         let answer = rehearsal.play(line);
         if let (Ok(Some(command)), Some(first), None) = (parse(line), answer.first(), &broken) {
             let kept = promise.saw(&command, first, &rehearsal);
-            broken = kept.err().map(|what| Fault { line: number, what: format!("{first}: {what}") });
+            broken =
+                kept.err().map(|what| Fault { line: number, what: format!("{first}: {what}") });
         }
         answers.extend(answer.into_iter().map(|line| (number, line)));
     }
@@ -73,17 +77,31 @@ pub fn fault(
 /// The script with as many lines, and then bytes, taken out as can be while it still fails.
 pub fn cut_down(script: &Script, fails: impl Fn(&Script) -> bool) -> Script {
     let mut script = script.clone();
-    let mut length = script.lines.len().div_ceil(2);
+    let mut length = script.lines.len().div_ceil(2).max(1);
     loop {
         let shorter = without_parts(&script, length, &fails);
         let went = shorter.lines.len() < script.lines.len();
         script = shorter;
-        match length {
-            0 | 1 if !went => return shorten_bytes(script, &fails),
-            0 | 1 => {}
-            _ => length /= 2,
+        if length > 1 {
+            length /= 2;
+        } else if !went {
+            match without_pair(&script, &fails) {
+                Some(shorter) => script = shorter,
+                None => return shorten_bytes(script, &fails),
+            }
         }
     }
+}
+
+/// The script without some lines, if it still fails, with spoilings aimed anew if need be.
+fn without(script: &Script, lines: &[usize], fails: &impl Fn(&Script) -> bool) -> Option<Script> {
+    let mut shorter = script.clone();
+    let mut number = 0..;
+    shorter.lines.retain(|_| number.next().is_some_and(|line| !lines.contains(&line)));
+    if fails(&shorter) {
+        return Some(shorter);
+    }
+    aimed_anew(&shorter).filter(|aimed| fails(aimed))
 }
 
 /// Takes out every part of that many lines, from the first on, without which it still fails.
@@ -91,14 +109,41 @@ fn without_parts(script: &Script, length: usize, fails: &impl Fn(&Script) -> boo
     let mut script = script.clone();
     let mut start = 0;
     while start < script.lines.len() {
-        let mut shorter = script.clone();
-        shorter.lines.drain(start..(start + length).min(script.lines.len()));
-        match fails(&shorter) {
-            true => script = shorter,
-            false => start += length,
+        let part: Vec<usize> = (start..start + length).collect();
+        match without(&script, &part, fails) {
+            Some(shorter) => script = shorter,
+            None => start += length,
         }
     }
     script
+}
+
+/// The script without two lines that can only go together, such as a drive's loss and return.
+fn without_pair(script: &Script, fails: &impl Fn(&Script) -> bool) -> Option<Script> {
+    let count = script.lines.len();
+    if count > MOST_FOR_PAIRS {
+        return None;
+    }
+    let pairs = (0..count).flat_map(|first| (first + 1..count).map(move |second| [first, second]));
+    pairs.into_iter().find_map(|pair| without(script, &pair, fails))
+}
+
+/// Without earlier lines versions have other numbers: a spoiling of what is no longer there
+/// becomes one of the highest version that is. None where there is nothing to change.
+fn aimed_anew(script: &Script) -> Option<Script> {
+    let mut rehearsal = Rehearsal::new(script.n, script.need, None);
+    let mut aimed = script.clone();
+    for line in &mut aimed.lines {
+        if let Ok(Some(Command::Spoil(drive, object, version))) = parse(line) {
+            let held = rehearsal.world.drives.get(drive as usize);
+            let versions = held.map_or(Vec::new(), |held| held.versions(object as usize));
+            if let (false, Some(highest)) = (versions.contains(&version), versions.last()) {
+                *line = format!("spoil {drive} {object} {highest}");
+            }
+        }
+        rehearsal.play(line);
+    }
+    (aimed.lines != script.lines).then_some(aimed)
 }
 
 /// Gives every object that is written one byte, or none, where it still fails then.

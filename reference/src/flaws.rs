@@ -11,6 +11,7 @@ pub enum Flaw {
     SettlesClearingFirst,
     NoneKeepsBar,
     FinishesAtNeed,
+    FinishesWithTooFew,
     FinishesWithoutFile,
     FinishesWithOldBar,
     ReadsAnyVersion,
@@ -18,13 +19,14 @@ pub enum Flaw {
     MendsHighest,
     MendsAgain,
     SweepsBar,
-    ComesUpWithNextNumber,
+    ComesUpWithLastNumber,
+    StopLeavesStopWaiting,
     RefusedBeginTakesNumber,
     HealsByDrive,
 }
 
 /// Each flaw by the name that `--break` takes.
-pub const FLAWS: [(&str, Flaw); 19] = [
+pub const FLAWS: [(&str, Flaw); 21] = [
     ("settles-under-found-number", Flaw::SettlesUnderFoundNumber),
     ("settles-below-bar", Flaw::SettlesBelowBar),
     ("settles-lowest", Flaw::SettlesLowest),
@@ -34,6 +36,7 @@ pub const FLAWS: [(&str, Flaw); 19] = [
     ("settles-clearing-first", Flaw::SettlesClearingFirst),
     ("none-keeps-bar", Flaw::NoneKeepsBar),
     ("finishes-at-need", Flaw::FinishesAtNeed),
+    ("finishes-with-too-few", Flaw::FinishesWithTooFew),
     ("finishes-without-file", Flaw::FinishesWithoutFile),
     ("finishes-with-old-bar", Flaw::FinishesWithOldBar),
     ("reads-any-version", Flaw::ReadsAnyVersion),
@@ -41,7 +44,8 @@ pub const FLAWS: [(&str, Flaw); 19] = [
     ("mends-highest", Flaw::MendsHighest),
     ("mends-again", Flaw::MendsAgain),
     ("sweeps-bar", Flaw::SweepsBar),
-    ("comes-up-with-next-number", Flaw::ComesUpWithNextNumber),
+    ("comes-up-with-last-number", Flaw::ComesUpWithLastNumber),
+    ("stop-leaves-stop-waiting", Flaw::StopLeavesStopWaiting),
     ("refused-begin-takes-number", Flaw::RefusedBeginTakesNumber),
     ("heals-by-drive", Flaw::HealsByDrive),
 ];

@@ -1,9 +1,10 @@
 //! Random scripts, each from its seed: few objects, few drives mostly, and much that goes wrong.
 //!
 //! The next line is chosen by how things stand, which the keeper itself is asked as the script is
-//! made: else most lines would be refused. Half of the scripts stay within the premise that what
-//! was finished is never lost.
+//! made: else most lines would be refused. Many of the scripts stay within the premise that
+//! never too many drives are weak.
 
+use crate::flaws::Flaw;
 use crate::promise::Promise;
 use crate::script::{parse, to_hexadecimal, Rehearsal};
 use std::fmt;
@@ -50,15 +51,58 @@ impl Random {
 
 /// Lines that are no commands.
 const MALFORMED: [&str; 36] = [
-    "read", "read x", "read 0 0", "read +0", "read -1", "read 0x0", "read\t0", "READ 0", " # no comment",
-    "begin", "begin x", "begin 0 0", "begin 0 abc", "begin 0 0g", "begin 0 00 11", "begin 999 zz", "write 0",
-    "write 0 0 0", "finish", "tidy 0", "mend 0", "sweep", "settle", "give 0", "give up", "giveup 0", "up 0",
-    "out", "in x", "put", "put 0 5", "heal 0", "count 0", "show 0", "stop", "stop soon",
+    "read",
+    "read x",
+    "read 0 0",
+    "read +0",
+    "read -1",
+    "read 0x0",
+    "read\t0",
+    "READ 0",
+    " # no comment",
+    "begin",
+    "begin x",
+    "begin 0 0",
+    "begin 0 abc",
+    "begin 0 0g",
+    "begin 0 00 11",
+    "begin 999 zz",
+    "write 0",
+    "write 0 0 0",
+    "finish",
+    "tidy 0",
+    "mend 0",
+    "sweep",
+    "settle",
+    "give 0",
+    "give up",
+    "giveup 0",
+    "up 0",
+    "out",
+    "in x",
+    "put",
+    "put 0 5",
+    "heal 0",
+    "count 0",
+    "show 0",
+    "stop",
+    "stop soon",
 ];
 
 /// The numbers of drives, and of those needed, that scripts are most often for.
 const SIZES: [(usize, usize); 12] = [
-    (3, 2), (3, 2), (3, 2), (2, 1), (3, 1), (4, 2), (4, 2), (4, 3), (5, 3), (6, 4), (7, 2), (14, 10),
+    (3, 2),
+    (3, 2),
+    (3, 2),
+    (2, 1),
+    (3, 1),
+    (4, 2),
+    (4, 2),
+    (4, 3),
+    (5, 3),
+    (6, 4),
+    (7, 2),
+    (14, 10),
 ];
 
 struct Writer {
@@ -75,6 +119,11 @@ struct Writer {
 
 /// The script of a seed: always the same.
 pub fn script(seed: u64) -> Script {
+    script_for(seed, None)
+}
+
+/// The script of a seed that fits what a keeper with a flaw answers.
+pub fn script_for(seed: u64, flaw: Option<Flaw>) -> Script {
     let mut random = Random(seed);
     let (n, need) = match random.below(25) {
         0 => {
@@ -85,10 +134,10 @@ pub fn script(seed: u64) -> Script {
     };
     let objects: &[&[usize]] = &[&[0], &[0], &[0, 1], &[7, 255], &[0, 3, 255]];
     let objects = random.pick(objects).to_vec();
-    let bearable = random.chance(50);
+    let bearable = random.chance(40);
     let mut writer = Writer {
         random,
-        rehearsal: Rehearsal::new(n, need, None),
+        rehearsal: Rehearsal::new(n, need, flaw),
         promise: Promise::new(),
         bearable,
         objects,
@@ -166,7 +215,10 @@ impl Writer {
         };
         let byte = if self.random.chance(10) { 0 } else { 255 };
         let bytes: Vec<u8> = (0..length).map(|_| self.random.next() as u8 & byte).collect();
-        let content = to_hexadecimal(&bytes);
+        let mut content = to_hexadecimal(&bytes);
+        if self.random.chance(10) {
+            content = content.to_uppercase();
+        }
         if length < 10 {
             self.contents.push(content.clone());
         }
@@ -175,19 +227,13 @@ impl Writer {
 
     fn step(&mut self) {
         match self.random.below(100) {
-            0..=57 => self.object_line(),
+            0..=54 => self.object_line(),
+            55..=57 => self.raise_a_ghost(),
             58..=66 => self.stop(),
-            67..=72 => {
-                let drive = self.drive();
-                self.lose(&format!("out {drive}"));
-            }
-            73..=79 => self.return_drive(),
-            80..=81 => {
-                let drive = self.drive();
-                self.lose(&format!("wipe {drive}"));
-            }
-            82..=86 => self.spoil(),
-            87..=89 => self.upkeep(),
+            67..=72 => self.lose_drive(),
+            73..=78 => self.return_drive(),
+            79..=85 => self.spoil(),
+            86..=89 => self.upkeep(),
             90..=92 => {
                 let line = self.random.pick(&["show", "count"]);
                 self.say(line);
@@ -272,10 +318,59 @@ impl Writer {
             self.say(&format!("settle {object}"));
         }
         while self.rehearsal.keeper.being_written(object).is_some() {
-            if self.write_on(object).starts_with("refused") || self.random.chance(3) {
+            let answer = self.write_on(object);
+            if answer.starts_with("refused") {
+                return self.find_a_way_out(object, &answer);
+            }
+            if self.random.chance(3) {
                 return;
             }
         }
+    }
+
+    /// What goes on after a refusal, perhaps: a full drive is cleared by settling anew, and where
+    /// too few drives are in, one comes back.
+    fn find_a_way_out(&mut self, object: usize, answer: &str) {
+        match (answer, self.random.chance(60)) {
+            ("refused 5", true) => {
+                self.say(&format!("give up {object}"));
+                self.say(&format!("settle {object}"));
+            }
+            ("refused 6", true) => self.return_drive(),
+            _ => {}
+        }
+    }
+
+    /// What is begun on a few drives, goes away with them, is settled without them, and comes back
+    /// with them: it must not count any more.
+    fn raise_a_ghost(&mut self) {
+        let (object, content) = (self.object(), self.content());
+        self.bring_to_count(object);
+        self.say(format!("begin {object} {content}").trim_end());
+        let first = self.drive();
+        let few = 1 + self.random.below(self.n - self.rehearsal.keeper.need());
+        let drives: Vec<usize> = (first..first + few).map(|drive| drive % self.n).collect();
+        for drive in &drives {
+            self.say(&format!("write {object} {drive}"));
+        }
+        for drive in &drives {
+            self.lose(&format!("out {drive}"));
+        }
+        self.break_off(object);
+        self.bring_to_count(object);
+        for drive in &drives {
+            self.say(&format!("in {drive}"));
+        }
+        self.break_off(object);
+        self.bring_to_count(object);
+        self.say(&format!("read {object}"));
+    }
+
+    fn break_off(&mut self, object: usize) {
+        match self.random.chance(70) {
+            true => self.say("stop 0"),
+            false => self.say(&format!("give up {object}")),
+        };
     }
 
     fn stop(&mut self) {
@@ -295,6 +390,18 @@ impl Writer {
         }
     }
 
+    /// A drive goes out or is emptied; where all may be lost, sometimes one after another.
+    fn lose_drive(&mut self) {
+        let many = !self.bearable && self.random.chance(30);
+        for _ in 0..if many { self.n.div_ceil(2) } else { 1 } {
+            let drive = self.drive();
+            match self.random.chance(75) {
+                true => self.lose(&format!("out {drive}")),
+                false => self.lose(&format!("wipe {drive}")),
+            }
+        }
+    }
+
     fn return_drive(&mut self) {
         let is_in = &self.rehearsal.world.is_in;
         let out: Vec<usize> = (0..self.n).filter(|drive| !is_in[*drive]).collect();
@@ -303,17 +410,43 @@ impl Writer {
             false => self.random.pick(&out),
         };
         self.say(&format!("in {drive}"));
+        self.look_after(drive);
     }
 
-    /// A piece that is there, mostly, is spoilt.
+    /// Once a drive has come back or lost something: mended, or its objects read, perhaps.
+    fn look_after(&mut self, drive: usize) {
+        let object = self.object();
+        match self.random.below(8) {
+            0 => drop(self.say(&format!("mend {object} {drive}"))),
+            1 => drop(self.say(&format!("read {object}"))),
+            2 => drop(self.say("heal")),
+            3 => {
+                self.bring_to_count(object);
+                self.say(&format!("tidy {object} {drive}"));
+                self.say(&format!("mend {object} {drive}"));
+            }
+            _ => {}
+        }
+    }
+
+    /// A piece that is there, mostly, is spoilt; where all may be lost, sometimes on most drives.
     fn spoil(&mut self) {
-        let (drive, object) = (self.drive(), self.object());
+        let object = self.object();
+        let many = !self.bearable && self.random.chance(20);
+        for _ in 0..if many { self.n } else { 1 } {
+            self.spoil_one(object);
+        }
+    }
+
+    fn spoil_one(&mut self, object: usize) {
+        let drive = self.drive();
         let versions = self.rehearsal.world.drives[drive].versions(object);
         let version = match versions.is_empty() || self.random.chance(10) {
             true => self.random.below(4) as u64,
             false => self.random.pick(&versions),
         };
         self.lose(&format!("spoil {drive} {object} {version}"));
+        self.look_after(drive);
     }
 
     fn upkeep(&mut self) {

@@ -162,8 +162,8 @@ impl Keeper {
     /// A keeper that comes up after this one.
     pub fn comes_up_again(&self, world: &World) -> Result<Keeper, Halt> {
         let mut keeper = Keeper::come_up(world, self.need, self.flaw)?;
-        if self.has(Flaw::ComesUpWithNextNumber) {
-            keeper.next = self.next;
+        if self.has(Flaw::ComesUpWithLastNumber) {
+            keeper.next = self.next.max(2) - 1;
         }
         Ok(keeper)
     }
@@ -219,7 +219,8 @@ impl Keeper {
         let version = self.being_written(object).ok_or(WRONG_TIME)?;
         let (ins, holders) = (world.ins().len(), world.holders(object, version).len());
         let all_have_it = holders == ins || self.has(Flaw::FinishesAtNeed);
-        ensure(all_have_it && holders >= self.need, NOT_ALL_HAVE_IT)?;
+        let enough = holders >= self.need || self.has(Flaw::FinishesWithTooFew);
+        ensure(all_have_it && enough, NOT_ALL_HAVE_IT)?;
         if !self.has(Flaw::FinishesWithOldBar) {
             self.bars[object] = version;
         }

@@ -81,7 +81,8 @@ impl Promise {
             return Ok(());
         }
         self.within = self.bearable(now);
-        let by_the_world = matches!(command, Command::Out(_) | Command::Wipe(_) | Command::Spoil(..));
+        let by_the_world =
+            matches!(command, Command::Out(_) | Command::Wipe(_) | Command::Spoil(..));
         if !self.within && !by_the_world {
             return Err("the keeper's own step made too many drives weak".to_string());
         }

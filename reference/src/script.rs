@@ -137,7 +137,9 @@ impl Rehearsal {
     }
 
     fn come_up(&mut self) {
-        self.world.waiting = None;
+        if !self.keeper.has(Flaw::StopLeavesStopWaiting) {
+            self.world.waiting = None;
+        }
         // The file is replaced before the first piece is ever written, and never goes.
         let keeper = self.keeper.comes_up_again(&self.world);
         self.keeper = keeper.expect("in memory the file always fits");

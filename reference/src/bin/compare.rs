@@ -10,10 +10,13 @@ use std::ops::RangeInclusive;
 use std::process::{Child, Command, ExitCode, Stdio};
 use std::sync::mpsc;
 use std::thread;
-use std::time::Duration;
+use std::time::{Duration, Instant};
 
 /// No script takes a program this long, unless it hangs.
 const PATIENCE: Duration = Duration::from_secs(30);
+
+/// A script is cut down for so long at most.
+const CUTTING: Duration = Duration::from_secs(30);
 
 struct Arguments {
     program: String,
@@ -76,12 +79,19 @@ impl Arguments {
     }
 
     fn report(&self, seed: u64, script: &Script, found: Fault) {
-        println!("seed {seed} (rehearse {} {}): {}", script.n, script.need, script.lines.len());
+        println!(
+            "seed {seed}, rehearse {} {}, {} lines",
+            script.n,
+            script.need,
+            script.lines.len()
+        );
         print_fault(script, &found);
         let mut start = script.clone();
         start.lines.truncate(found.line + 1);
-        let faulty = |script: &Script| fault(script, play(script, None), &|script| self.run(script));
-        let fails = |script: &Script| faulty(script).is_some();
+        let faulty =
+            |script: &Script| fault(script, play(script, None), &|script| self.run(script));
+        let deadline = Instant::now() + CUTTING;
+        let fails = |script: &Script| Instant::now() < deadline && faulty(script).is_some();
         let short = cut_down(if fails(&start) { &start } else { script }, fails);
         println!("cut down to {} lines:\n{short}", short.lines.len());
         if let Some(found) = faulty(&short) {
