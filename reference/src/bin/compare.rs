@@ -56,7 +56,7 @@ fn converse(child: &mut Child, script: &Script) -> Result<Vec<u8>, String> {
 }
 
 impl Arguments {
-    /// The lines that the program answers to a script.
+    /// The lines that the program answers to a script, and one more where it fails.
     fn run(&self, script: &Script) -> Result<Vec<String>, String> {
         let mut child = Command::new(&self.program)
             .args(&self.passed_on)
@@ -71,11 +71,12 @@ impl Arguments {
             let _ = child.kill();
         }
         let status = child.wait().map_err(|error| error.to_string())?;
-        let lines = String::from_utf8_lossy(&answers?).lines().map(str::to_string).collect();
-        match status.success() {
-            true => Ok(lines),
-            false => Err(format!("the program ended with {status}")),
+        let text = String::from_utf8_lossy(&answers?).into_owned();
+        let mut lines: Vec<String> = text.lines().map(str::to_string).collect();
+        if !status.success() {
+            lines.push(format!("(ended with {status})"));
         }
+        Ok(lines)
     }
 
     fn report(&self, seed: u64, script: &Script, found: Fault) {
