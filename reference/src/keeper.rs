@@ -359,17 +359,16 @@ impl Keeper {
         if !self.has(Flaw::SettlesLowest) {
             versions.reverse();
         }
-        let worked_out =
-            |version| Some((version, self.from_drives(world, &drives, object, version)?));
+        let worked_out = |version| Some((version, self.rows_on(world, &drives, object, version)?));
         versions.into_iter().find_map(worked_out)
     }
 
     /// The rows of a version, from the lowest drives that are in and have it.
     fn work_out(&self, world: &World, object: usize, version: u64) -> Option<Rows> {
-        self.from_drives(world, &world.ins(), object, version)
+        self.rows_on(world, &world.ins(), object, version)
     }
 
-    fn from_drives(
+    fn rows_on(
         &self,
         world: &World,
         drives: &[usize],

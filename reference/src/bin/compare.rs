@@ -24,7 +24,7 @@ struct Arguments {
     passed_on: Vec<String>,
 }
 
-fn seeds(word: &String) -> Option<RangeInclusive<u64>> {
+fn seeds(word: &str) -> Option<RangeInclusive<u64>> {
     let (first, last) = word.split_once('-').unwrap_or((word, word));
     Some(first.parse().ok()?..=last.parse().ok()?)
 }
@@ -34,7 +34,7 @@ fn arguments() -> Option<Arguments> {
     let own = words.iter().position(|word| word == "--").unwrap_or(words.len());
     let passed_on = words.split_off(own).into_iter().skip(1).collect();
     let (program, ranges) = words.split_first()?;
-    let seeds: Option<Vec<_>> = ranges.iter().map(seeds).collect();
+    let seeds: Option<Vec<_>> = ranges.iter().map(|word| seeds(word)).collect();
     let seeds = seeds.filter(|seeds| !seeds.is_empty())?;
     Some(Arguments { program: program.clone(), seeds, passed_on })
 }
@@ -111,6 +111,11 @@ fn main() -> ExitCode {
         eprintln!("usage: compare PROGRAM SEEDS .. [-- ARGUMENT ..]   (SEEDS: 7, or 1-2000)");
         return ExitCode::from(2);
     };
+    let nothing = Script { n: 2, need: 1, lines: Vec::new() };
+    if let Err(what) = arguments.run(&nothing) {
+        println!("{what}\n0 passed, 1 failed");
+        return ExitCode::FAILURE;
+    }
     let (mut passed, mut within) = (0, 0);
     for seed in arguments.seeds.iter().cloned().flatten() {
         let script = generate::script(seed);
