@@ -368,6 +368,7 @@ impl Keeper {
         self.rows_on(world, &world.ins(), object, version)
     }
 
+    /// The same from the lowest of the given drives that have it.
     fn rows_on(
         &self,
         world: &World,
