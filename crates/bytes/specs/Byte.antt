@@ -26,5 +26,21 @@ times (suc n) a b = add (cond (eqb (b % 2) 1) a 0) (times n (twice a) (b / 2))
 unfoldable pub mul : ℕ → ℕ → ℕ
 mul a b = times 8 a b
 
+-- The fourth power of a byte.
+unfoldable pub fourth : ℕ → ℕ
+fourth a = mul (mul a a) (mul a a)
+
+-- The inverse of a byte but 0: its 254th power, since every byte but 0 to the 255th is 1. 254 is 16 * 15 + 14.
+unfoldable pub inv : ℕ → ℕ
+inv a =
+    let second : ℕ = mul a a in
+    let third : ℕ = mul second a in
+    let twelfth : ℕ = fourth third in
+    mul (fourth (fourth (mul twelfth third))) (mul twelfth second)
+
+-- The quotient of a byte by a byte but 0.
+unfoldable pub div : ℕ → ℕ → ℕ
+div a b = mul a (inv b)
+
 abbrev pub IsByte : ℕ → Type 0
 IsByte a = a < 256

@@ -1,0 +1,4 @@
+mod Computed
+mod Sums
+mod Products
+pub mod Laws
