@@ -62,7 +62,10 @@ pub fn inverse(a: u8) -> Option<u8>
     let third = product(second, a);
     let twelfth = fourth_power(third);
     let fifteenth = product(twelfth, third);
-    Some(product(fourth_power(fourth_power(fifteenth)), product(twelfth, second)))
+    Some(product(
+        fourth_power(fourth_power(fifteenth)),
+        product(twelfth, second),
+    ))
 }
 
 // What times `b` is `a`; `None` where `b` is 0.

@@ -1,3 +1,5 @@
+-- The products that `inverse` takes are those of the definition.
+-- Assumes nothing.
 use mathlib.Core.Path.{_≡_}
 use mathlib.Core.Bool.{false}
 use lib.Dec.{eqb}

@@ -1,3 +1,5 @@
+-- The turns of the loop of `product`.
+-- Assumes nothing.
 use mathlib.Core.Path.{sym, _∙_}
 use borrow.Author.Needs.{needs}
 use Rattle.bytes.proofs.Turns.{start, turn, finish}

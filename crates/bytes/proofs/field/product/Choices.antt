@@ -1,3 +1,5 @@
+-- What `product` has summed up after so many bits, with the product that is left, is the whole.
+-- Assumes nothing.
 use mathlib.Core.Path.{_≡_}
 use Rattle.bytes.specs.Byte.{mul, IsByte}
 use Rattle.bytes.proofs.Turns.{with-rest}
