@@ -1,0 +1,6 @@
+mod Computing
+mod Working
+mod Runs
+mod Deciding
+mod Putting
+mod Stopping
