@@ -1,0 +1,2 @@
+// The keeper's steps: what is told, what is to be done outside, and the state afterwards.
+pub mod refusal;
