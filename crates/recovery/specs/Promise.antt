@@ -1,0 +1,2 @@
+-- What is promised of an object through every run: its safety, that nothing older comes back, and that the keeper's own steps never weaken a drive.
+-- Assumes nothing: each promise is for every codec and format that keep their laws.
