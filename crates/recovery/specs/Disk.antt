@@ -63,27 +63,27 @@ readingsOf S D = readDrives S D (S .drives) 0
 abbrev pub at : {X : Type 0} → (d k : ℕ) → X → (ℕ → ℕ → X) → ℕ → ℕ → X
 at d k x f d′ k′ = cond (eqb d′ d && eqb k′ k) x (f d′ k′)
 
--- A place has these bytes from now on.
-abbrev pub leaving : (d k : ℕ) → List ℕ → Disk → Disk
-leaving d k bs D = record { bytes = at d k bs (D .bytes); once = D .once; out = D .out; number = D .number; bar = D .bar }
+-- A place has these bytes from now on, and these are the pieces whose writing was once begun there.
+abbrev pub placing : (d k : ℕ) → List ℕ → List (ℕ × List ℕ) → Disk → Disk
+placing d k bs begun D = record { bytes = at d k bs (D .bytes); once = at d k begun (D .once); out = D .out; number = D .number; bar = D .bar }
 
 -- A record's writing to a place is begun: what would be read of it is a piece whose writing was once begun there.
 abbrev pub remember : Slot → List (ℕ × List ℕ) → List (ℕ × List ℕ)
-remember empty once = once
-remember (holds v p) once = (v, p) ∷ once
+remember empty begun = begun
+remember (holds v p) begun = (v, p) ∷ begun
 
-abbrev pub beginning : Site → (d k : ℕ) → List ℕ → Disk → Disk
-beginning S d k bs D =
-    record {
-        bytes = D .bytes;
-        once = at d k (remember (S .format .decode d (S .format .lay bs (D .bytes d k))) (D .once d k)) (D .once);
-        out = D .out; number = D .number; bar = D .bar }
+abbrev pub begunBy : Site → (d k : ℕ) → List ℕ → Disk → List (ℕ × List ℕ)
+begunBy S d k bs D = remember (S .format .decode d (S .format .lay bs (D .bytes d k))) (D .once d k)
+
+-- The file has this number and bar.
+abbrev pub filing : (number bar : ℕ) → Disk → Disk
+filing number bar D = record { bytes = D .bytes; once = D .once; out = D .out; number = number; bar = bar }
 
 -- An act done whole.
 abbrev pub perform : Site → Act → Disk → Disk
-perform S (writeSlot d k bs) D = leaving d k (S .format .lay bs (D .bytes d k)) (beginning S d k bs D)
-perform S (clearSlot d k) D = leaving d k (S .format .wipe d (D .bytes d k)) D
-perform S (replaceFile number bar) D = record { bytes = D .bytes; once = D .once; out = D .out; number = number; bar = bar }
+perform S (writeSlot d k bs) D = placing d k (S .format .lay bs (D .bytes d k)) (begunBy S d k bs D) D
+perform S (clearSlot d k) D = placing d k (S .format .wipe d (D .bytes d k)) (D .once d k) D
+perform S (replaceFile number bar) D = filing number bar D
 
 unfoldable pub performAll : Site → List Act → Disk → Disk
 performAll S [] D = D
@@ -96,13 +96,13 @@ OnceBegun once (holds v p) = List·Memᴰ (v, p) once
 
 -- An act torn half-way: its place is left with these bytes. The file is replaced whole or not at all.
 abbrev pub tear : Site → List ℕ → Act → Disk → Disk
-tear S m (writeSlot d k bs) D = leaving d k m (beginning S d k bs D)
-tear S m (clearSlot d k) D = leaving d k m D
+tear S m (writeSlot d k bs) D = placing d k m (begunBy S d k bs D) D
+tear S m (clearSlot d k) D = placing d k m (D .once d k) D
 tear S m (replaceFile number bar) D = D
 
 -- The one thing that is trusted of a torn place: it reads as nothing, or as a piece whose writing was once begun there, the present one included.
 abbrev pub MayLeave : Site → List ℕ → Act → Disk → Type 0
-MayLeave S m (writeSlot d k bs) D = OnceBegun (beginning S d k bs D .once d k) (S .format .decode d m)
+MayLeave S m (writeSlot d k bs) D = OnceBegun (begunBy S d k bs D) (S .format .decode d m)
 MayLeave S m (clearSlot d k) D = OnceBegun (D .once d k) (S .format .decode d m)
 MayLeave S m (replaceFile number bar) D = Unit {0}
 

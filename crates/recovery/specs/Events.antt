@@ -7,7 +7,7 @@ use Prim.Native.Nat.{ℕ, _≤_, _<_}
 use lib.Dec.{eqb}
 use Rattle.std.specs.declared.option.Option.{Option}
 use Rattle.std.specs.declared.option.Option.the-variants.{Some, None}
-use Rattle.keeper.specs.Object.{unsure, counts, writing, State}
+use Rattle.keeper.specs.Object.{Knowledge, unsure, counts, writing, State, Outcome}
 use Rattle.recovery.specs.Disk.{Slot, empty, Site, Disk, slotAt, performAll, cut, MayCut, without, bearing, OnceBegun}
 use Rattle.recovery.specs.World.{Past, World, Call, begin, write, finish, read, tidy, sweep, mend, giveUp, settle, outcomeOf, noted, Bearable}
 
@@ -23,12 +23,13 @@ Given (mend d) = Unit {0}
 Given giveUp = Unit {0}
 Given settle = Unit {0}
 
--- A whole step: its acts are done, then the keeper has its new state, and the history is told.
+-- A whole step: its acts are done, then the keeper has its new state, and the history is told, by what was known of the object before.
+abbrev pub carriedOut : Site → Knowledge → Outcome → World → World
+carriedOut S before o w =
+    record { disk = performAll S (o .acts) (w .disk); state = o .state; past = noted before (o .state .known) (w .past) }
+
 abbrev pub stepped : Site → Call → World → World
-stepped S c w =
-    record {
-        disk = performAll S (outcomeOf S w c .acts) (w .disk); state = outcomeOf S w c .state;
-        past = noted (w .state .known) (outcomeOf S w c .state .known) (w .past) }
+stepped S c w = carriedOut S (w .state .known) (outcomeOf S w c) w
 
 -- Coming up after a stop: with a file, the object is unsure, and the next version is the file's number. With none it is a first start.
 abbrev pub firstState : State
