@@ -7,3 +7,5 @@ pub mod Highest
 pub mod Places
 pub mod Well
 pub mod Steps
+pub mod Runs
+pub mod Safe

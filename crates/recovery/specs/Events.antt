@@ -84,10 +84,10 @@ pub record MayMove (next number inFile : ℕ) (s : State) : Type 0 where
 -- When an event may happen. That not too many drives are weak afterwards is asked of the world's events alone.
 abbrev pub May : Site → Event → World → Type 0
 May S (step c) w = Given c
-May S (cutShort c n left) w = MayCut S (outcomeOf S w c .acts) n left (w .disk)
+May S (cutShort c n left) w = Given c × MayCut S (outcomeOf S w c .acts) n left (w .disk)
 May S stop w = Unit {0}
 May S (others next number inFile) w = MayMove next number inFile (w .state)
-May S (failing c n left d) w = MayCut S (outcomeOf S w c .acts) n left (w .disk) × Bearable S (after S (failing c n left d) w)
+May S (failing c n left d) w = Given c × MayCut S (outcomeOf S w c .acts) n left (w .disk) × Bearable S (after S (failing c n left d) w)
 May S (goesOut d) w = Bearable S (after S (goesOut d) w)
 May S (returns d what) w = ((k : ℕ) → OnceBegun (w .disk .once d k) (S .format .decode d (what k))) × Bearable S (after S (returns d what) w)
 
