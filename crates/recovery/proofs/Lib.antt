@@ -11,3 +11,4 @@ pub mod Runs
 pub mod Safe
 pub mod Cleared
 pub mod Progress
+pub mod Store

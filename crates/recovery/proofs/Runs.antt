@@ -13,7 +13,7 @@ use Rattle.keeper.specs.Object.{unsure, counts, writing, State, Act, replaceFil
 use Rattle.recovery.specs.Disk.{Slot, empty, holds, Site, Disk, slotAt, hasFrom, howMany, without, bearing, cut, MayCut, OnceBegun}
 use Rattle.recovery.specs.Laws.{Laws}
 use Rattle.recovery.specs.World.{Past, World, Call, outcomeOf, weak, Bearable}
-use Rattle.recovery.specs.Events.{Given, Event, step, cutShort, stop, others, failing, goesOut, returns, firstState, comingUp, stopped, after, MayMove, May, First, Run, first, then}
+use Rattle.recovery.specs.Events.{Given, Event, step, cutShort, stop, others, failing, goesOut, returns, comingUp, stopped, after, MayMove, May, First, Run, first, then}
 use Rattle.recovery.specs.Promise.{Fresh, Own, Sequel}
 use Rattle.recovery.proofs.Invariant.{Right, Sound, Used, Writing, Knowing, LastIsBar, Consistent, Filed, Inv}
 use Rattle.recovery.proofs.Acts.{Strong, strong, not-weak, Keeps, refiled, Goes, stays, cut-goes}
@@ -37,36 +37,22 @@ pub record Up (P : Past) (D : Disk) (t : State) : Type 0 where
   pub filed : Filed (t .number) (t .bar) D
 
 pub coming-up : (P : Past) (s : State) (D : Disk) → Consistent P s → Filed (s .number) (s .bar) D → Up P D (comingUp D)
-coming-up P s D k f = go (eqb (D .number) 1) refl
+coming-up P s D k f =
+    record {
+        consistent =
+            record {
+                used = λ v c h. used-moved (sym (f .bar)) (omega (arith, k .numbers, f .number)) (k .used v c h); known = go (eqb (D .number) 1) refl;
+                last = elim (k .last) [ inl z ↦ inl z | inr z ↦ inr (record { bar = z .bar ∙ sym (f .bar); content = z .content; used = z .used }) ];
+                bar = omega (arith, k .bar, k .numbers, f .number, f .bar); numbers = omega arith };
+        filed = record { number = omega arith; bar = refl } }
   where
-    again : State
-    again = record { known = unsure; bar = D .bar; next = D .number; number = D .number }
-
-    go : (b : Bool) → eqb (D .number) 1 ≡ b → Up P D (cond b firstState (record { known = unsure; bar = D .bar; next = D .number; number = D .number }))
-    go false e =
-        record {
-            consistent =
-                record {
-                    used = λ v c h. used-moved (sym (f .bar)) (omega (arith, k .numbers, f .number)) (k .used v c h); known = tt;
-                    last = elim (k .last) [ inl z ↦ inl z | inr z ↦ inr (record { bar = z .bar ∙ sym (f .bar); content = z .content; used = z .used }) ];
-                    bar = omega (arith, k .bar, k .numbers, f .number, f .bar); numbers = omega arith };
-            filed = record { number = omega arith; bar = refl } }
+    -- with no file no version is used
+    go : (b : Bool) → eqb (D .number) 1 ≡ b → Knowing P (comingUp D) (cond b (counts 0) unsure)
+    go false e = tt
     go true e =
         let one : D .number ≡ 1 = eqb-true (D .number) 1 e in
         let low : s .next ≤ 1 = omega (arith, k .numbers, f .number) in
-        let none′ : (v : ℕ) (c : List ℕ) → P .content v ≡ Some c → ⊥ = none-used P s k low in
-        let zero′ : P .last ≡ 0 = elim (k .last) [ inl z ↦ z | inr z ↦ absurd (none′ (P .last) (z .content) (z .used)) ] in
-        record {
-            consistent = record { used = λ v c h. absurd (none′ v c h); known = sym zero′; last = inl zero′; bar = omega arith; numbers = omega arith };
-            filed = record { number = omega arith; bar = omega (arith, k .bar, f .bar) } }
-
--- The next number after a stop isn't lower.
-up-next : (s : State) (D : Disk) → s .next ≤ s .number → s .number ≤ D .number → (s .next ≤ comingUp D .next) × (s .number ≤ comingUp D .number)
-up-next s D a b = go (eqb (D .number) 1) refl
-  where
-    go : (t : Bool) → eqb (D .number) 1 ≡ t → (s .next ≤ cond t firstState (record { known = unsure; bar = D .bar; next = D .number; number = D .number }) .next) × (s .number ≤ cond t firstState (record { known = unsure; bar = D .bar; next = D .number; number = D .number }) .number)
-    go false e = (omega arith, omega arith)
-    go true e = let one = eqb-true (D .number) 1 e in (omega arith, omega arith)
+        elim (k .last) [ inl z ↦ sym z | inr z ↦ absurd (none-used P s k low (P .last) (z .content) (z .used)) ]
 
 module _ (S : Site) (L : Laws S) (w : World) (I : Inv S w) where
   -- a cut leads where gentle acts lead
@@ -93,8 +79,7 @@ module _ (S : Site) (L : Laws S) (w : World) (I : Inv S w) where
   stopping : (D′ : Disk) → Goes S (w .past .content) (w .past .last) (w .state .number) (w .state .bar) (w .disk) D′ → Inv S (stopped D′ w) × Fresh w (stopped D′ w)
   stopping D′ g =
       let u = coming-up (w .past) (w .state) D′ (I .consistent) (g .filed) in
-      let n = up-next (w .state) D′ (I .consistent .numbers) (g .filed .number) in
-      (record { sound = g .sound; consistent = u .consistent; filed = u .filed; bearable = bearable-kept S (w .disk) (w .past .last) D′ (w .past .last) (g .keeps) (I .bearable) }, still-fresh (stopped D′ w) refl (n .0) (n .1))
+      (record { sound = g .sound; consistent = u .consistent; filed = u .filed; bearable = bearable-kept S (w .disk) (w .past .last) D′ (w .past .last) (g .keeps) (I .bearable) }, still-fresh (stopped D′ w) refl (omega (arith, I .consistent .numbers, g .filed .number)) (g .filed .number))
 
   same-state : (D′ : Disk) → Sound S (w .past .content) D′ → Filed (w .state .number) (w .state .bar) D′ → Bearable S (record { disk = D′; state = w .state; past = w .past }) → Inv S (record { disk = D′; state = w .state; past = w .past })
   same-state D′ s f b = record { sound = s; consistent = I .consistent; filed = f; bearable = b }

@@ -4,3 +4,4 @@ pub mod World
 pub mod Events
 pub mod Promise
 pub mod Progress
+pub mod Store
