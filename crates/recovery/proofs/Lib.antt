@@ -12,3 +12,4 @@ pub mod Safe
 pub mod Cleared
 pub mod Progress
 pub mod Store
+pub mod Example

@@ -80,7 +80,7 @@ module _ (T : Depot) (L : (o : ℕ) → o < T .objects → Laws (siteOf T o)) wh
       others : (p ≡ o → ⊥) → p < T .objects → Run (siteOf T p) (seen p (putting o (stepped (siteOf T o) c (seen o s)) s))
       others n k =
           subst (Run (siteOf T p)) (sym (seen-other o p (stepped (siteOf T o) c (seen o s)) s n (out-all (siteOf T o) (outcomeOf (siteOf T o) (seen o s) c .acts) (seen o s .disk))))
-              (then (runs p k) (Events.others (w′ .state .next) (w′ .state .number) (w′ .disk .number)) may)
+          (then (runs p k) (Events.others (w′ .state .next) (w′ .state .number) (w′ .disk .number)) may)
 
   -- an object's acts cut short: the others see the file's number change
   module _ (s : Store) (runs : All s) (o : ℕ) (c : Call) (n : ℕ) (left : Option (List ℕ)) (m : MayCutAt T o c n left s) where
@@ -97,20 +97,20 @@ module _ (T : Depot) (L : (o : ℕ) → o < T .objects → Laws (siteOf T o)) wh
         let g = cut-mild (siteOf T o) (L o (m .0)) (seen o s) I (outcomeOf (siteOf T o) (seen o s) c .acts) n left (z .mild) (m .2) in
         let D′ = cut (siteOf T o) (outcomeOf (siteOf T o) (seen o s) c .acts) n left (seen o s .disk) in
         subst (Run (siteOf T p)) (sym (seen-other o p (onDisk (cut (siteOf T o) (outcomeOf (siteOf T o) (seen o s) c .acts) n left (seen o s .disk)) (seen o s)) s d (out-cut (siteOf T o) (outcomeOf (siteOf T o) (seen o s) c .acts) n left (seen o s .disk))))
-            (then (runs p k) (Events.others (s .next) (s .number) (D′ .number)) (record { later = omega arith; higher = omega arith; below = I .consistent .numbers; filed = g .filed .number }))
+        (then (runs p k) (Events.others (s .next) (s .number) (D′ .number)) (record { later = omega arith; higher = omega arith; below = I .consistent .numbers; filed = g .filed .number }))
 
   goes : {s : Store} → All s → (e : Store.Event) → Store.May T e s → All (Store.after T e s)
   goes {s} runs (Store.step o c) m p k = stepping s runs o c (m .0) (m .1) p k
   goes {s} runs (Store.cutShort o c n left) m p k =
       either (λ x. x < T .objects → Run (siteOf T x) (seen x (comingUpAll (cutting T o c n left s)))) o p
-          (λ l. subst (λ (w : World). Run (siteOf T o) (stopped (w .disk) w)) (sym (same s runs o c n left m)) (then (runs o l) (Events.cutShort c n left) (m .1, m .2)))
-          (λ d l. then (other s runs o c n left m p d l) Events.stop tt) k
+      (λ l. subst (λ (w : World). Run (siteOf T o) (stopped (w .disk) w)) (sym (same s runs o c n left m)) (then (runs o l) (Events.cutShort c n left) (m .1, m .2)))
+      (λ d l. then (other s runs o c n left m p d l) Events.stop tt) k
   goes {s} runs Store.stop m p k = then (runs p k) Events.stop tt
   goes {s} runs (Store.failing o c n left d) m p k =
       either (λ x. x < T .objects → Bearable (siteOf T x) (seen x (withoutDrive d (cutting T o c n left s))) → Run (siteOf T x) (seen x (withoutDrive d (cutting T o c n left s)))) o p
-          (λ l b. subst (λ (w : World). Run (siteOf T o) (onDisk (without d (w .disk)) w)) (sym (same s runs o c n left (m .0)))
-              (then (runs o l) (Events.failing c n left d) (m .0 .1, m .0 .2, subst (λ (w : World). Bearable (siteOf T o) (onDisk (without d (w .disk)) w)) (same s runs o c n left (m .0)) b)))
-          (λ e l b. then (other s runs o c n left (m .0) p e l) (Events.goesOut d) b) k (m .1 p k)
+      (λ l b. subst (λ (w : World). Run (siteOf T o) (onDisk (without d (w .disk)) w)) (sym (same s runs o c n left (m .0)))
+      (then (runs o l) (Events.failing c n left d) (m .0 .1, m .0 .2, subst (λ (w : World). Bearable (siteOf T o) (onDisk (without d (w .disk)) w)) (same s runs o c n left (m .0)) b)))
+      (λ e l b. then (other s runs o c n left (m .0) p e l) (Events.goesOut d) b) k (m .1 p k)
   goes {s} runs (Store.goesOut d) m p k = then (runs p k) (Events.goesOut d) (m p k)
   goes {s} runs (Store.returns d what) m p k = then (runs p k) (Events.returns d (what p)) (λ x. m .0 p x k, m .1 p k)
 

@@ -49,8 +49,10 @@ onDisk D w = record { disk = D; state = w .state; past = w .past }
 abbrev pub moved : (next number inFile : ℕ) → World → World
 moved next number inFile w =
     record {
-        disk = record { bytes = w .disk .bytes; once = w .disk .once; out = w .disk .out; number = inFile; bar = w .disk .bar };
-        state = record { known = w .state .known; bar = w .state .bar; next = next; number = number }; past = w .past }
+      disk = record { bytes = w .disk .bytes; once = w .disk .once; out = w .disk .out; number = inFile; bar = w .disk .bar };
+      state = record { known = w .state .known; bar = w .state .bar; next = next; number = number };
+      past = w .past;
+    }
 
 pub data Event : Type 0 where
   -- the keeper's: a whole step; one cut short by a stop (all acts done and not told is a whole step and then a stop); a stop between steps

@@ -5,3 +5,4 @@ pub mod Events
 pub mod Promise
 pub mod Progress
 pub mod Store
+pub mod Example

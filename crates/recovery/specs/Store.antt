@@ -46,8 +46,10 @@ pub record Store : Type 0 where
 abbrev pub seenBy : Part → Store → World
 seenBy p s =
     record {
-        disk = record { bytes = p .bytes; once = p .once; out = s .out; number = s .filed; bar = p .filed };
-        state = record { known = p .known; bar = p .bar; next = s .next; number = s .number }; past = p .past }
+      disk = record { bytes = p .bytes; once = p .once; out = s .out; number = s .filed; bar = p .filed };
+      state = record { known = p .known; bar = p .bar; next = s .next; number = s .number };
+      past = p .past;
+    }
 
 abbrev pub seen : ℕ → Store → World
 seen o s = seenBy (s .part o) s
@@ -64,11 +66,20 @@ putting o w s =
 abbrev pub comingUpAll : Store → Store
 comingUpAll s =
     record {
-        part =
-            λ p. record {
-                bytes = s .part p .bytes; once = s .part p .once; filed = s .part p .filed; known = comingUp (seen p s .disk) .known;
-                bar = comingUp (seen p s .disk) .bar; past = s .part p .past };
-        out = s .out; next = s .filed; number = s .filed; filed = s .filed }
+      part =
+          λ p. record {
+            bytes = s .part p .bytes;
+            once = s .part p .once;
+            filed = s .part p .filed;
+            known = comingUp (seen p s .disk) .known;
+            bar = comingUp (seen p s .disk) .bar;
+            past = s .part p .past;
+          };
+      out = s .out;
+      next = s .filed;
+      number = s .filed;
+      filed = s .filed;
+    }
 
 -- A drive goes out; a drive is in, with these bytes in its places, by object.
 abbrev pub withoutDrive : ℕ → Store → Store
@@ -77,11 +88,20 @@ withoutDrive d s = record { part = s .part; out = λ x. cond (eqb x d) true (s .
 abbrev pub withDrive : ℕ → (ℕ → ℕ → List ℕ) → Store → Store
 withDrive d what s =
     record {
-        part =
-            λ p. record {
-                bytes = λ x k. cond (eqb x d) (what p k) (s .part p .bytes x k); once = s .part p .once; filed = s .part p .filed; known = s .part p .known;
-                bar = s .part p .bar; past = s .part p .past };
-        out = λ x. cond (eqb x d) false (s .out x); next = s .next; number = s .number; filed = s .filed }
+      part =
+          λ p. record {
+            bytes = λ x k. cond (eqb x d) (what p k) (s .part p .bytes x k);
+            once = s .part p .once;
+            filed = s .part p .filed;
+            known = s .part p .known;
+            bar = s .part p .bar;
+            past = s .part p .past;
+          };
+      out = λ x. cond (eqb x d) false (s .out x);
+      next = s .next;
+      number = s .number;
+      filed = s .filed;
+    }
 
 -- The events of a store: those of one object, and those of all.
 pub data Event : Type 0 where

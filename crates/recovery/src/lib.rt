@@ -2,6 +2,7 @@
 ghost use Rattle.recovery.specs.Promise.{Safety, Onward, TakesHighest};
 ghost use Rattle.recovery.specs.Progress.{GoesOn};
 ghost use Rattle.recovery.specs.Store.{StoreSafety};
+ghost use Rattle.recovery.specs.Example.{Example};
 
 // After every run the version last finished can be worked out, what a read answers is its content, and nothing is worked out of pieces of two versions.
 pub fn safety_stands() -> u8
@@ -34,6 +35,13 @@ pub fn progress_stands() -> u8
 // All of it for every object of a store, whose objects share numbers, the file and the drives.
 pub fn store_stands() -> u8
     ensures { λ _. ⌜ StoreSafety ⌝ }
+{
+    0
+}
+
+// What the promises ask can be met: a run with every kind of event, over a codec that keeps its laws, and the read at its end.
+pub fn example_stands() -> u8
+    ensures { λ _. ⌜ Example ⌝ }
 {
     0
 }
