@@ -1,3 +1,4 @@
 pub mod Object
 pub mod Readings
 pub mod Steps
+pub mod Shown
