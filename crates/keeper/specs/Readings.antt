@@ -15,17 +15,29 @@ unfoldable pub anyOf : {X : Type 0} → (X → Bool) → List X → Bool
 anyOf p [] = false
 anyOf p (x ∷ xs) = p x || anyOf p xs
 
+-- The reading is of that drive and version.
+abbrev pub isOf : (d v : ℕ) → Reading → Bool
+isOf d v r = eqb (r .drive) d && eqb (r .version) v
+
 -- The drive has a piece of the version.
 abbrev pub holder : (d v : ℕ) → List Reading → Bool
-holder d v rs = anyOf (λ r. eqb (r .drive) d && eqb (r .version) v) rs
+holder d v rs = anyOf (isOf d v) rs
+
+-- The second reading is of the same drive and version, at a lower place.
+abbrev pub precedes : Reading → Reading → Bool
+precedes r q = isOf (r .drive) (r .version) q && ltb (q .place) (r .place)
 
 -- A lower place of the same drive has the same version: the reading is a copy, and its place counts as free.
 abbrev pub copied : List Reading → Reading → Bool
-copied rs r = anyOf (λ q. eqb (q .drive) (r .drive) && (eqb (q .version) (r .version) && ltb (q .place) (r .place))) rs
+copied rs r = anyOf (precedes r) rs
+
+-- The reading stands in that place of that drive, and counts.
+abbrev pub countsAt : List Reading → (d k : ℕ) → Reading → Bool
+countsAt rs d k r = eqb (r .drive) d && (eqb (r .place) k && not (copied rs r))
 
 -- A place of a drive holds something that counts.
 abbrev pub taken : (d k : ℕ) → List Reading → Bool
-taken d k rs = anyOf (λ r. eqb (r .drive) d && (eqb (r .place) k && not (copied rs r))) rs
+taken d k rs = anyOf (countsAt rs d k) rs
 
 -- The lowest place of a drive, of so many from k on, that is free.
 unfoldable pub freePlace : (count : ℕ) (d k : ℕ) → List Reading → Option ℕ
@@ -35,15 +47,19 @@ freePlace (suc n) d k rs = cond (taken d k rs) (freePlace n d (suc k) rs) (Some 
 -- The place of the first reading of the version on the drive.
 unfoldable pub ownPlace : (d v : ℕ) → List Reading → Option ℕ
 ownPlace d v [] = None
-ownPlace d v (r ∷ rs) = cond (eqb (r .drive) d && eqb (r .version) v) (Some (r .place)) (ownPlace d v rs)
+ownPlace d v (r ∷ rs) = cond (isOf d v r) (Some (r .place)) (ownPlace d v rs)
 
 -- A place for a version on a drive: its own, else the lowest that is free; none where as many other versions are there as there are places.
 abbrev pub placeFor : (places d v : ℕ) → List Reading → Option ℕ
 placeFor places d v rs = cond (holder d v rs) (ownPlace d v rs) (freePlace places d 0 rs)
 
+-- The reading is of that version, and no copy.
+abbrev pub countsAs : List Reading → ℕ → Reading → Bool
+countsAs rs v r = eqb (r .version) v && not (copied rs r)
+
 -- The pieces of a version, one from each drive that has it.
 abbrev pub piecesOf : ℕ → List Reading → List Reading
-piecesOf v rs = kept-by (λ r. eqb (r .version) v && not (copied rs r)) rs
+piecesOf v rs = kept-by (countsAs rs v) rs
 
 -- A reading as working out takes it.
 abbrev pub given : Reading → ℕ × List ℕ
@@ -57,11 +73,16 @@ contentOf C u v rs = cond (leb (u .need) (length (piecesOf v rs))) (C .workOut (
 abbrev pub clears : (Reading → Bool) → List Reading → List Act
 clears rule rs = map (λ r. clearSlot (r .drive) (r .place)) (kept-by rule rs)
 
--- How many of the drives below n are in; and all of them that are in have the version.
+-- How many of the drives below n are in.
 unfoldable pub howManyIn : ℕ → (ℕ → Bool) → ℕ
 howManyIn zero isIn = 0
 howManyIn (suc n) isIn = cond (isIn n) 1 0 + howManyIn n isIn
 
+-- The drive is out, or has the version.
+abbrev pub outOrHas : Bool → (d v : ℕ) → List Reading → Bool
+outOrHas isIn d v rs = not isIn || holder d v rs
+
+-- All drives below n that are in have the version.
 unfoldable pub allHave : ℕ → (ℕ → Bool) → ℕ → List Reading → Bool
 allHave zero isIn v rs = true
-allHave (suc n) isIn v rs = (not (isIn n) || holder n v rs) && allHave n isIn v rs
+allHave (suc n) isIn v rs = outOrHas (isIn n) n v rs && allHave n isIn v rs
