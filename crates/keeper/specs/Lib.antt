@@ -2,3 +2,4 @@ pub mod Object
 pub mod Readings
 pub mod Steps
 pub mod Shown
+pub mod Rules

@@ -1,6 +1,8 @@
 -- What the code's values stand for: the same with lists where the code has a Vec.
 -- Assumes nothing.
+use mathlib.Core.Bool.{Bool, false}
 use mathlib.Core.Logic.{_⊎_}
+use lib.ListN.{length, getD}
 use mathlib.Core.List.{List, map}
 use mathlib.Core.Path.{_≡_}
 use Prim.Native.Nat.{ℕ}
@@ -16,7 +18,7 @@ use Rattle.keeper.specs.declared.object.Effect.the-variants.{Write, Clear, Rep
 use Rattle.keeper.specs.declared.object.Answer.{Answer}
 use Rattle.keeper.specs.declared.object.Answer.the-variants.{Refused, Done, Version, Has, Nothing, Removed, Mended, Found, Unknown}
 use Rattle.keeper.specs.declared.object.Step.{Step}
-use Rattle.keeper.specs.Object.{Knowledge, unsure, counts, writing, Reading, Act, writeSlot, clearSlot, replaceFile, Reply, refused, done, isVersion, has, none, removed, mended, found, unknown, State, Outcome, refuse}
+use Rattle.keeper.specs.Object.{Knowledge, unsure, counts, writing, Reading, Act, writeSlot, clearSlot, replaceFile, Reply, refused, done, isVersion, has, none, removed, mended, found, unknown, State, Outcome, Setup, refuse}
 
 abbrev pub knownOf : Known → Knowledge
 knownOf Unsure = unsure
@@ -50,6 +52,10 @@ stateOf o = record { known = knownOf (o .known); bar = o .bar; next = o .next; n
 
 abbrev pub outcomeOf : Step → Outcome
 outcomeOf s = record { reply = replyOf (s .answer); acts = map actOf (vec-items (s .effects)); state = stateOf (s .object) }
+
+-- The drives, by which of them are in: there are as many as there are flags.
+abbrev pub setupOf : ℕ → List Bool → Setup
+setupOf need present = record { drives = length present; need = need; isIn = λ d. getD present d false }
 
 -- The step is the planned one, or memory was wanting, and nothing changes.
 abbrev pub Gives : Step → State → Outcome → Type 0

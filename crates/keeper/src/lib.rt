@@ -1,4 +1,5 @@
 // The keeper's steps: what is told, what is to be done outside, and the state afterwards.
+mod clearing;
 pub mod object;
 pub mod refusal;
 pub mod readings;

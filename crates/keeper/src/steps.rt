@@ -2,16 +2,23 @@
 ghost use mathlib.Core.Path.{_≡_};
 ghost use Rattle.std.specs.Of.Vec.{vec-items};
 ghost use mathlib.Core.List.{map};
-ghost use Prim.Native.Nat.{_^_, _<_};
+ghost use lib.ListN.{length};
+ghost use Prim.Native.Nat.{_^_, _<_, _≤_};
 ghost use Rattle.std.specs.Vec.{made};
-ghost use Rattle.keeper.specs.Shown.{stateOf, outcomeOf, actOf, Gives};
+ghost use Rattle.keeper.specs.Rules.{names};
+ghost use Rattle.keeper.specs.Shown.{stateOf, outcomeOf, actOf, readingsOf, setupOf, Gives};
 ghost use Rattle.keeper.specs.Object.{refuse as refusal-of};
-ghost use Rattle.keeper.specs.Steps.{begin as begin-of, reserve as reserve-of, writingOn};
+ghost use Rattle.keeper.specs.Steps.{begin as begin-of, reserve as reserve-of, writingOn, finishTo, finish as finish-of, takeAway, tidyTo, tidy as tidy-of, sweep as sweep-of, giveUp};
 use crate::object::Answer;
+use crate::clearing::Rule;
+use crate::clearing::clears;
 use crate::object::Effect;
+use crate::object::Entry;
 use crate::object::Known;
 use crate::object::Object;
 use crate::object::Step;
+use crate::readings::all_have;
+use crate::readings::how_many_in;
 use crate::refusal::Refusal;
 use std::alloc::AllocError;
 use std::alloc::Global;
@@ -68,4 +75,96 @@ fn written_on(object: Object, from: u64, bytes: Vec<u8>) -> Object
     let to = object.next;
     let number = if object.number <= to { object.number + STRIDE } else { object.number };
     Object { known: Known::Writing { from, to, bytes }, bar: object.bar, next: to + 1, number }
+}
+
+// Finishes a writing, when all drives that are in have the new version and enough are in: it counts and is the bar, in the file.
+pub fn finish(heap: Global, need: u8, present: &[bool], object: Object, entries: &[Entry]) -> Step
+    requires { ⌜ length (now present) ≤ 256 ⌝ }
+    ensures { λ r. ⌜ Gives r (stateOf object) (finish-of (setupOf need (now (present .entry))) (stateOf object) (readingsOf (now (entries .entry)))) ⌝ }
+{
+    let to = match &object.known {
+        Known::Writing { from: _, to, bytes: _ } => *to,
+        _ => return refuse(heap, object, Refusal::NotBeingWritten),
+    };
+    finish_to(heap, need, present, object, entries, to)
+}
+
+fn finish_to(heap: Global, need: u8, present: &[bool], object: Object, entries: &[Entry], to: u64) -> Step
+    requires { ⌜ length (now present) ≤ 256 ⌝ }
+    ensures { λ r. ⌜ Gives r (stateOf object) (finishTo (setupOf need (now (present .entry))) (stateOf object) (readingsOf (now (entries .entry))) to) ⌝ }
+{
+    if !all_have(entries, present, to) {
+        return refuse(heap, object, Refusal::NotEverywhere);
+    }
+    if how_many_in(present) < need as usize {
+        return refuse(heap, object, Refusal::TooFewIn);
+    }
+    let mut effects = Vec::new(heap);
+    if effects.push(Effect::Replace { number: object.number, bar: to }).is_err() {
+        return refuse(heap, object, Refusal::NoMemory);
+    }
+    let object = Object { known: Known::Counts(to), bar: to, next: object.next, number: object.number };
+    Step { answer: Answer::Version(to), effects, object }
+}
+
+// The entries that the rule names go, and the caller is told how many.
+fn take_away(heap: Global, object: Object, entries: &[Entry], rule: Rule) -> Step
+    ensures { λ r. ⌜ Gives r (stateOf object) (takeAway (stateOf object) (names rule) (readingsOf (now (entries .entry)))) ⌝ }
+{
+    match clears(Vec::new(heap), entries, rule) {
+        Ok(effects) => Step { answer: Answer::Removed(effects.len()), effects, object },
+        Err(_) => refuse(heap, object, Refusal::NoMemory),
+    }
+}
+
+// Tidies an object that counts a version on a drive that is in: pieces of other versions go.
+pub fn tidy(heap: Global, need: u8, present: &[bool], object: Object, drive: u8, entries: &[Entry]) -> Step
+    ensures { λ r. ⌜ Gives r (stateOf object) (tidy-of (setupOf need (now (present .entry))) (stateOf object) drive (readingsOf (now (entries .entry)))) ⌝ }
+{
+    if drive as usize >= present.len() {
+        return refuse(heap, object, Refusal::NoSuch);
+    }
+    let version = match &object.known {
+        Known::Unsure => return refuse(heap, object, Refusal::Unsure),
+        Known::Writing { .. } => return refuse(heap, object, Refusal::BeingWritten),
+        Known::Counts(version) => *version,
+    };
+    tidy_to(heap, need, present, object, drive, entries, version)
+}
+
+fn tidy_to(heap: Global, need: u8, present: &[bool], object: Object, drive: u8, entries: &[Entry], version: u64) -> Step
+    requires { ⌜ drive < length (now present) ⌝ }
+    ensures { λ r. ⌜ Gives r (stateOf object) (tidyTo (setupOf need (now (present .entry))) (stateOf object) drive (readingsOf (now (entries .entry))) version) ⌝ }
+{
+    if !present[drive as usize] {
+        return refuse(heap, object, Refusal::DriveOut);
+    }
+    take_away(heap, object, entries, Rule::OnDriveBut { drive, version })
+}
+
+// Sweeps an object on a drive that is in, at any time: its pieces below its bar go.
+pub fn sweep(heap: Global, need: u8, present: &[bool], object: Object, drive: u8, entries: &[Entry]) -> Step
+    ensures { λ r. ⌜ Gives r (stateOf object) (sweep-of (setupOf need (now (present .entry))) (stateOf object) drive (readingsOf (now (entries .entry)))) ⌝ }
+{
+    if drive as usize >= present.len() {
+        return refuse(heap, object, Refusal::NoSuch);
+    }
+    if !present[drive as usize] {
+        return refuse(heap, object, Refusal::DriveOut);
+    }
+    let version = object.bar;
+    take_away(heap, object, entries, Rule::OnDriveBelow { drive, version })
+}
+
+// Gives up an unfinished writing: whether it counts isn't known, and the object is unsure.
+pub fn give_up(heap: Global, object: Object) -> Step
+    ensures { λ r. ⌜ outcomeOf r ≡ giveUp (stateOf object) ⌝ }
+{
+    match &object.known {
+        Known::Writing { .. } => {
+            let object = Object { known: Known::Unsure, bar: object.bar, next: object.next, number: object.number };
+            Step { answer: Answer::Unknown, effects: Vec::new(heap), object }
+        }
+        _ => refuse(heap, object, Refusal::NotBeingWritten),
+    }
 }
