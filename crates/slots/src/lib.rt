@@ -1,0 +1,10 @@
+// One slot: the bytes by which a piece of a version of an object lies on a drive, with Adler's sum.
+mod slot;
+mod sum;
+
+pub use slot::Held;
+pub use slot::SLOT;
+pub use slot::read;
+pub use slot::record_len;
+pub use slot::slot_len;
+pub use sum::adler;
