@@ -2,5 +2,6 @@ pub mod Adler
 pub mod Sums
 pub mod Layout
 pub mod Slot
+pub mod Header
 pub mod Mixture
 pub mod Laws
