@@ -1,2 +1,5 @@
 pub mod Adding
 pub mod Reading
+pub mod Numbers
+pub mod Writing
+pub mod Clearing

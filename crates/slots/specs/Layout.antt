@@ -2,7 +2,11 @@
 -- Assumes nothing.
 use mathlib.Core.List.{List, [], _∷_, _++_}
 use Prim.Native.Nat.{ℕ, zero, suc, _+_, _*_, _/_, _%_, _^_}
-use lib.ListN.{length, getD}
+use mathlib.Core.Bool.{cond}
+use lib.Dec.{leb}
+use lib.ListN.{length, getD, take, drop}
+use Rattle.std.specs.declared.option.Option.{Option}
+use Rattle.std.specs.declared.option.Option.the-variants.{Some, None}
 use Rattle.slots.specs.Adler.{adler}
 
 -- How many bytes a slot has room for. It stands here and in the constant `SLOT` of the code, which `slot_len` ties to it.
@@ -37,3 +41,14 @@ bodyOf o d v p = headerOf o d v (length p) ++ p
 -- A record: the bytes by which a piece of a version of an object lies on a drive.
 unfoldable pub recordOf : (o d v : ℕ) → List ℕ → List ℕ
 recordOf o d v p = bodyOf o d v p ++ bytesOf 4 (adler (bodyOf o d v p))
+
+-- How long the record of a piece of so many bytes is, and the record; none where a slot has no room for it.
+abbrev pub recordRoom : ℕ → Option ℕ
+recordRoom n = cond (leb n pieceRoom) (Some (around + n)) None
+
+abbrev pub recordFor : (o d v : ℕ) → List ℕ → Option (List ℕ)
+recordFor o d v p = cond (leb (length p) pieceRoom) (Some (recordOf o d v p)) None
+
+-- Bytes with a field written over them at a place.
+abbrev pub putAt : List ℕ → ℕ → List ℕ → List ℕ
+putAt bytes at field = take at bytes ++ (field ++ drop (at + length field) bytes)

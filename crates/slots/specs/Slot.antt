@@ -8,7 +8,7 @@ use lib.ListN.{length, getD, take, drop, replicate}
 use Rattle.std.specs.declared.option.Option.{Option}
 use Rattle.std.specs.declared.option.Option.the-variants.{Some, None}
 use Rattle.slots.specs.Adler.{adler}
-use Rattle.slots.specs.Layout.{slotSize, around, numberAt}
+use Rattle.slots.specs.Layout.{slotSize, around, pieceRoom, numberAt, recordOf}
 use Rattle.slots.specs.declared.slot.Held.{Held}
 
 -- Nothing, or a piece of a version.
@@ -54,3 +54,11 @@ recordLength (holds v p) = around + length p
 -- The slot once its piece was taken away: zeros over the whole record, the rest as it was.
 unfoldable pub cleared : (o d : ℕ) → List ℕ → List ℕ
 cleared o d bytes = replicate (recordLength (readSlot o d bytes)) 0 ++ drop (recordLength (readSlot o d bytes)) bytes
+
+-- The place has room for a piece's record, and so has a slot.
+abbrev pub hasRoom : (place piece : List ℕ) → Bool
+hasRoom bytes p = leb (length p) pieceRoom && leb (around + length p) (length bytes)
+
+-- The place once a piece was written to it: the record, and what lay behind it; all as it was where it has no room.
+unfoldable pub written : (o d v : ℕ) (piece place : List ℕ) → List ℕ
+written o d v p bytes = cond (hasRoom bytes p) (recordOf o d v p ++ drop (around + length p) bytes) bytes

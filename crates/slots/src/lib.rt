@@ -4,7 +4,10 @@ mod sum;
 
 pub use slot::Held;
 pub use slot::SLOT;
+pub use slot::clear;
+pub use slot::encode;
 pub use slot::read;
 pub use slot::record_len;
 pub use slot::slot_len;
+pub use slot::write;
 pub use sum::adler;

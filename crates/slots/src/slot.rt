@@ -5,11 +5,15 @@ ghost use mathlib.Core.List.{_++_};
 ghost use Prim.Native.Nat.{ℕ, _+_, _≤_, _<_};
 ghost use lib.Dec.{leb};
 ghost use lib.ListN.{length, take, drop};
-ghost use Rattle.std.specs.Options.{Cases as BySome};
-ghost use Rattle.slots.specs.Layout.{slotSize, around, numberAt, headerOf, recordOf};
-ghost use Rattle.slots.specs.Slot.{Slot, readSlot, reading, isHeld, cleared};
+ghost use Rattle.std.specs.Of.Vec.{vec-items};
+ghost use Rattle.std.specs.Options.{Cases as BySome, mapped};
+ghost use Rattle.std.specs.Vec.{made};
+ghost use Rattle.slots.specs.Layout.{slotSize, numberAt, headerOf, putAt, recordRoom, recordFor};
+ghost use Rattle.slots.specs.Slot.{readSlot, reading, isHeld, hasRoom, written, cleared};
 ghost use Rattle.slots.specs.Header.{Names, NoHeader};
 use crate::sum::adler;
+use std::alloc::AllocError;
+use std::alloc::Global;
 
 // How many bytes a slot has room for. It will grow: nothing else says it in the code.
 pub const SLOT: usize = 65_559;
@@ -38,8 +42,9 @@ pub fn slot_len() -> usize
     SLOT
 }
 
-// How long the record of a piece is; none where a slot has no room for it.
+// How long the record of a piece of so many bytes is; none where a slot has no room for it.
 pub fn record_len(piece: usize) -> Option<usize>
+    ensures { λ r. ⌜ r ≡ recordRoom piece ⌝ }
 {
     if piece <= PIECE { Some(HEADER + piece + TRAILER) } else { None }
 }
@@ -88,4 +93,68 @@ pub fn read(slot: &[u8], object: u8, drive: u8) -> Option<Held<'_>>
         return None;
     }
     Some(Held { version, piece: &slot[HEADER..HEADER + len] })
+}
+
+// What stands before a piece, in bytes.
+fn header_bytes(object: u8, drive: u8, version: u64, len: u32) -> [u8; 15]
+    ensures { λ r. ⌜ r ≡ headerOf object drive version len ⌝ }
+{
+    let mut bytes = [KIND, object, drive, 0, 0, 0, 0, 0, 0, 0, 0, 0, 0, 0, 0];
+    bytes[3..11].copy_from_slice(&version.to_be_bytes());
+    bytes[11..15].copy_from_slice(&len.to_be_bytes());
+    bytes
+}
+
+// Writes a field at a place of a slot; the bytes before and behind it stay.
+fn put(slot: &mut [u8], at: usize, field: &[u8])
+    requires { ⌜ at + length (now field) ≤ length (now slot) ⌝ }
+    ensures { λ _. ⌜ now (slot .exit) ≡ putAt (now (slot .entry)) at (now (field .entry)) ⌝ }
+{
+    slot[at..at + field.len()].copy_from_slice(field);
+}
+
+// Writes a piece's record at the front of a slot's place, and leaves what lies behind it. Where the place, or a slot, has no room for it: false, and nothing changes.
+pub fn write(slot: &mut [u8], object: u8, drive: u8, version: u64, piece: &[u8]) -> bool
+    ensures answer { λ r. ⌜ r ≡ hasRoom (now (slot .entry)) (now (piece .entry)) ⌝ }
+    ensures after { λ r. ⌜ now (slot .exit) ≡ written object drive version (now (piece .entry)) (now (slot .entry)) ⌝ }
+{
+    let Some(end) = record_len(piece.len()) else {
+        return false;
+    };
+    if slot.len() < end {
+        return false;
+    }
+    put(slot, 0, &header_bytes(object, drive, version, piece.len() as u32));
+    put(slot, HEADER, piece);
+    let sum = adler(&slot[0..end - TRAILER]);
+    put(slot, end - TRAILER, &sum.to_be_bytes());
+    true
+}
+
+// Takes away what a slot holds for an object and a drive: zeros over its whole record. False, and nothing changes, where it holds nothing.
+pub fn clear(slot: &mut [u8], object: u8, drive: u8) -> bool
+    ensures answer { λ r. ⌜ r ≡ isHeld (readSlot object drive (now (slot .entry))) ⌝ }
+    ensures after { λ _. ⌜ now (slot .exit) ≡ cleared object drive (now (slot .entry)) ⌝ }
+{
+    let end = match read(slot, object, drive) {
+        Some(held) => HEADER + held.piece.len() + TRAILER,
+        None => return false,
+    };
+    slot[0..end].fill(0);
+    true
+}
+
+// A piece's record in bytes of its own; none where a slot has no room for it.
+pub fn encode(heap: Global, object: u8, drive: u8, version: u64, piece: &[u8]) -> Result<Option<Vec<u8>>, AllocError>
+    ensures { λ r. ⌜ made r (λ v. mapped vec-items v ≡ recordFor object drive version (now (piece .entry))) ⌝ }
+{
+    let Some(len) = record_len(piece.len()) else {
+        return Ok(None);
+    };
+    let mut bytes = Vec::with_capacity(heap, len)?;
+    bytes.extend_from_slice(&header_bytes(object, drive, version, piece.len() as u32))?;
+    bytes.extend_from_slice(piece)?;
+    let sum = adler(bytes.as_slice());
+    bytes.extend_from_slice(&sum.to_be_bytes())?;
+    Ok(Some(bytes))
 }
