@@ -1,7 +1,10 @@
 // One slot: the bytes by which a piece of a version of an object lies on a drive, with Adler's sum.
+mod laws;
 mod slot;
 mod sum;
 
+pub use laws::slots_stand;
+pub use laws::torn_twice;
 pub use slot::Held;
 pub use slot::SLOT;
 pub use slot::clear;
