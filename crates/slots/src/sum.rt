@@ -1,9 +1,8 @@
 // Adler's sum.
 ghost use mathlib.Core.Path.{_≡_};
-ghost use mathlib.Core.List.{List, _++_};
-ghost use Prim.Native.Nat.{ℕ, _<_, _≤_};
+ghost use Prim.Native.Nat.{_<_, _≤_};
 ghost use lib.ListN.{length};
-ghost use Rattle.slots.specs.Adler.{adler as adlerOf, sums};
+ghost use Rattle.slots.specs.Adler.{adler as adlerOf};
 ghost use Rattle.slots.specs.Sums.{Carried};
 
 const MODULUS: u32 = 65_521;
