@@ -1,0 +1,16 @@
+// A drive: four slots for each object, read and written through lent parts; and which of the drives are in.
+mod layout;
+mod piece;
+mod rule;
+mod view;
+
+pub use layout::OBJECTS;
+pub use layout::PLACES;
+pub use layout::sizes;
+pub use layout::slot_start;
+pub use piece::Unwritten;
+pub use piece::find_piece;
+pub use piece::place_for;
+pub use rule::Rule;
+pub use view::place_in;
+pub use view::versions;
