@@ -1,0 +1,8 @@
+// Pieces of an object, one for each drive, and the object worked out of enough of them.
+mod errors;
+mod making;
+
+pub use errors::PieceError;
+pub use errors::PieceErrorFromAlloc;
+pub use errors::PieceErrorFromRefused;
+pub use making::make;
