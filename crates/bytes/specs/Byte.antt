@@ -3,6 +3,8 @@
 use mathlib.Core.Bool.{cond}
 use Prim.Native.Nat.{ℕ, zero, suc, _+_, _*_, _/_, _%_, _<_}
 use lib.Dec.{eqb, ltb}
+use Rattle.std.specs.declared.option.Option.{Option}
+use Rattle.std.specs.declared.option.Option.the-variants.{Some, None}
 
 -- The sum of the lowest so many bits of two numbers, bit by bit, without carry.
 unfoldable pub plus : (bits a b : ℕ) → ℕ
@@ -38,9 +40,13 @@ inv a =
     let twelfth : ℕ = fourth third in
     mul (fourth (fourth (mul twelfth third))) (mul twelfth second)
 
--- The quotient of a byte by a byte but 0.
-unfoldable pub div : ℕ → ℕ → ℕ
-div a b = mul a (inv b)
+-- The inverse of a byte, where it has one: of every byte but 0.
+abbrev pub inverseOf : ℕ → Option ℕ
+inverseOf a = cond (eqb a 0) None (Some (inv a))
+
+-- The quotient of two bytes, where there is one: by every byte but 0.
+abbrev pub quotientOf : ℕ → ℕ → Option ℕ
+quotientOf a b = cond (eqb b 0) None (Some (mul a (inv b)))
 
 abbrev pub IsByte : ℕ → Type 0
 IsByte a = a < 256
