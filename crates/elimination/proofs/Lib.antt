@@ -1,0 +1,3 @@
+pub mod Roots
+pub mod Combine
+pub mod Steps
