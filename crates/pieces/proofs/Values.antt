@@ -1,6 +1,6 @@
 -- The values of rows: how many there are, which one stands where, and that enough of them determine the rows.
-use mathlib.Core.Path.{_≡_, refl, sym, ap, _∙_}
-use mathlib.Core.List.{List, [], _∷_, List·Memᴰ}
+use mathlib.Core.Path.{_≡_, refl, sym, ap, ap₂, _∙_}
+use mathlib.Core.List.{List, [], _∷_, _++_, List·Memᴰ}
 use Prim.Native.Nat.{ℕ, zero, suc, _+_, _*_, _≤_, _<_}
 use native.Mathlib.Omega.{arith}
 use native.Mathlib.Nat.{suc-mul, zero-mul, mul-suc}
@@ -8,7 +8,8 @@ use lib.ListN.{length, take, drop, getD}
 use Rattle.std.proofs.shelf.Lists.{drop-drop, length-take-le, length-drop, take-append-drop, same-lists, nil-from-length, getD-default, drop-all, drop-more, length-take, getD-take, getD-drop}
 use Rattle.std.proofs.shelf.Bits.{mul-le}
 use Rattle.std.proofs.shelf.Elements.{all-take, all-drop}
-use Rattle.elimination.specs.Polynomial.{value, Bytes, Distinct, Determined}
+use Rattle.elimination.specs.Polynomial.{value, Bytes, Distinct}
+use Rattle.elimination.proofs.Roots.{determined}
 use Rattle.bytes.specs.Byte.{IsByte, add, mul}
 use Rattle.pieces.specs.Rows.{values}
 
@@ -51,3 +52,25 @@ before-column need flat r k j x v e h long is =
 -- A row lies within the rows.
 pub row-inside : (need rows : ℕ) (flat : List ℕ) (r : ℕ) → r < rows → length flat ≡ rows * need → r * need + need ≤ length flat
 row-inside need rows flat r h long = omega (arith, suc-mul r need, mul-le (suc r) need rows need h (omega arith))
+
+-- Rows are determined by their values at as many points as a row has bytes.
+pub rows-determined : (need rows : ℕ) (xs f g : List ℕ) → Bytes f → Bytes g → Bytes xs → Distinct xs → need ≤ length xs → length f ≡ rows * need → length g ≡ rows * need → ((x : ℕ) → List·Memᴰ x xs → values need rows x f ≡ values need rows x g) → f ≡ g
+unfolding values
+rows-determined need zero xs f g bf bg bx d h lf lg same =
+    nil-from-length f (lf ∙ zero-mul need) ∙ sym (nil-from-length g (lg ∙ zero-mul need))
+rows-determined need (suc rows) xs f g bf bg bx d h lf lg same =
+    let e = suc-mul rows need in
+    let tf : length (take need f) ≡ need = length-take-le need f (omega arith) in
+    let tg : length (take need g) ≡ need = length-take-le need g (omega arith) in
+    let first : take need f ≡ take need g =
+        determined (take need f) (take need g) xs (all-take IsByte need f bf) (all-take IsByte need g bg) bx d (tf ∙ sym tg) (omega arith)
+          (λ x m. heads (same x m)) in
+    let rest : drop need f ≡ drop need g =
+        rows-determined need rows xs (drop need f) (drop need g) (all-drop IsByte need f bf) (all-drop IsByte need g bg) bx d h
+          (simp length-drop (omega arith)) (simp length-drop (omega arith)) (λ x m. tails (same x m)) in
+    sym (take-append-drop need f) ∙ ap₂ (λ s t. s ++ t) first rest ∙ take-append-drop need g
+  where
+    heads : {a b : ℕ} {l m : List ℕ} → a ∷ l ≡ b ∷ m → a ≡ b
+    heads p = cc
+    tails : {a b : ℕ} {l m : List ℕ} → a ∷ l ≡ b ∷ m → l ≡ m
+    tails p = cc
