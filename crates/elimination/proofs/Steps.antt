@@ -34,17 +34,11 @@ module _ (k w q : ℕ) (first m : List ℕ) (red : Reduced k w q first m) (b : B
     (r : ℕ) → q ≤ k → ((i : ℕ) → q ≤ i → i < k → cell w m i (q + r) ≡ 0) → Vanishes k w m (withOne (column q w m (q + r)) r)
   spanned r hq below = record { at = at }
     where
-      c : ℕ
-      c = q + r
-
-      zs : List ℕ
-      zs = column q w m c
-
-      long : length zs ≡ q
-      long = length-map-counting (λ i. cell w m i c) 0 q
-
-      at : (i : ℕ) → i < k → combine (withOne zs r) (cell w m i) ≡ 0
+      at : (i : ℕ) → i < k → combine (withOne (column q w m (q + r)) r) (cell w m i) ≡ 0
       at i hi =
+          let c : ℕ = q + r in
+          let zs : List ℕ = column q w m c in
+          let long : length zs ≡ q = length-map-counting (λ i. cell w m i c) 0 q in
           let last : cell w m i (length zs + r) ≡ cell w m i c = ap (λ (n : ℕ). cell w m i (n + r)) long in
           let hc : IsByte (cell w m i (length zs + r)) = byte-at m (i * w + (length zs + r)) b in
           let split : combine (withOne zs r) (cell w m i) ≡ add (combine zs (cell w m i)) (cell w m i (length zs + r)) = withOne-combine zs r (cell w m i) hc in
@@ -115,7 +109,7 @@ vanished : (x y s z : ℕ) → IsByte x → z ≡ add x (mul s y) → z ≡ 0 �
 vanished x y s z hx e ez ey = cc (e, ez, ey, laws.mul-zero s, laws.add-zero x hx)
 
 module _ (k w q p : ℕ) (first m m′ : List ℕ) (red : Reduced k w q first m) (led : Led w q p m m′) (hk : k ≤ w) (hq : q ≤ p) (hp : p < k) (some : 1 ≤ cell w m p q) where
-  s : ℕ
+  abbrev s : ℕ
   s = leading w q p m
 
   byte : (i t : ℕ) → IsByte (cell w m i t)

@@ -1,2 +1,3 @@
 pub mod Polynomial
 pub mod Matrix
+pub mod Interpolation
