@@ -1,0 +1,5 @@
+pub mod Roots
+pub mod Combine
+pub mod Steps
+pub mod Blocks
+pub mod Points

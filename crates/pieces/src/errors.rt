@@ -1,0 +1,47 @@
+// Why a piece was not made, or an object not worked out.
+ghost use mathlib.Core.Path.{_≡_};
+ghost use Rattle.pieces.specs.declared.errors.PieceError.the-variants.{NoMemory};
+use std::alloc::AllocError;
+use std::alloc::Refused;
+
+#[derive(Clone, Copy, PartialEq, Eq, Debug)]
+pub enum PieceError {
+    // The number of pieces that give the object back isn't 1 to 31.
+    NeedOutOfRange,
+    // A drive's number isn't 0 to 31.
+    DriveOutOfRange,
+    // The object has more than 65,536 bytes.
+    ObjectTooLong,
+    // There are fewer pieces than are needed.
+    TooFewPieces,
+    // There are more pieces than are needed: the caller chooses which.
+    TooManyPieces,
+    // Two pieces have different lengths.
+    DifferentLengths,
+    // Two pieces are of the same drive.
+    SameDrive,
+    // The rows say that the object has more than 65,536 bytes.
+    LengthTooLarge,
+    // The rows are not as many as the object's length asks.
+    WrongRowCount,
+    // After the object's bytes comes one that isn't 0.
+    NotZeroFilled,
+    // There was no memory.
+    NoMemory,
+}
+
+pub impl From<AllocError> for PieceError as PieceErrorFromAlloc {
+    ghost converts = { λ _ r. r ≡ NoMemory };
+
+    fn from(_e: AllocError) -> PieceError {
+        PieceError::NoMemory
+    }
+}
+
+pub impl<T: Drop> From<Refused<T>> for PieceError as PieceErrorFromRefused {
+    ghost converts = { λ _ r. r ≡ NoMemory };
+
+    fn from(_e: Refused<T>) -> PieceError {
+        PieceError::NoMemory
+    }
+}
