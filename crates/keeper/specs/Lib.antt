@@ -3,3 +3,4 @@ pub mod Readings
 pub mod Steps
 pub mod Shown
 pub mod Rules
+pub mod Real

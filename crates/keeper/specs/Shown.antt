@@ -23,7 +23,7 @@ use Rattle.keeper.specs.Object.{Knowledge, unsure, counts, writing, Reading, A
 abbrev pub knownOf : Known → Knowledge
 knownOf Unsure = unsure
 knownOf (Counts v) = counts v
-knownOf (Writing v w bytes) = writing v w (vec-items bytes)
+knownOf (Writing w) = writing (w .from) (w .to) (vec-items (w .bytes))
 
 abbrev pub readingOf : Entry → Reading
 readingOf e = record { drive = e .drive; place = e .place; version = e .version; piece = vec-items (e .piece) }

@@ -4,3 +4,4 @@ pub mod object;
 pub mod refusal;
 pub mod readings;
 pub mod steps;
+pub mod writing;

@@ -1,5 +1,6 @@
 // What a step of the keeper takes and gives back: an object's state, the pieces read of it, the answer, and what is to be done outside.
 use crate::refusal::Refusal;
+use crate::writing::Writing;
 
 // What is known of an object.
 #[derive(Drop)]
@@ -7,8 +8,8 @@ pub enum Known {
     Unsure,
     // the version that counts, 0 for none
     Counts(u64),
-    // it is being written, from one version to another, with these bytes
-    Writing { from: u64, to: u64, bytes: Vec<u8> },
+    // it is being written
+    Writing(Writing),
 }
 
 // An object's state, with the numbers that all objects share. A step takes it by value and hands it back.

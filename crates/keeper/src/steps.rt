@@ -1,6 +1,6 @@
 // The keeper's steps on one object.
 ghost use mathlib.Core.Path.{_≡_};
-ghost use Rattle.std.specs.Of.Vec.{vec-items};
+ghost use Rattle.std.specs.Of.Vec.{vec-items, vec-len};
 ghost use mathlib.Core.List.{map};
 ghost use lib.ListN.{length};
 ghost use Prim.Native.Nat.{_^_, _<_, _≤_};
@@ -20,6 +20,7 @@ use crate::object::Step;
 use crate::readings::all_have;
 use crate::readings::how_many_in;
 use crate::refusal::Refusal;
+use crate::writing::Writing;
 use std::alloc::AllocError;
 use std::alloc::Global;
 
@@ -43,7 +44,7 @@ pub fn begin(heap: Global, object: Object, bytes: Vec<u8>) -> Step
     }
     let from = match &object.known {
         Known::Unsure => return refuse(heap, object, Refusal::Unsure),
-        Known::Writing { .. } => return refuse(heap, object, Refusal::BeingWritten),
+        Known::Writing(_) => return refuse(heap, object, Refusal::BeingWritten),
         Known::Counts(version) => *version,
     };
     if object.next >= LAST_NUMBER {
@@ -69,12 +70,12 @@ fn reserve(heap: Global, object: &Object) -> Result<Vec<Effect>, AllocError>
 
 // The object is being written, from a version to the next one, whose number is used up.
 fn written_on(object: Object, from: u64, bytes: Vec<u8>) -> Object
-    requires { ⌜ object .next < 2 ^ 63 ⌝ }
+    requires { ⌜ object .next < 2 ^ 63 ⌝ ∗ ⌜ vec-len bytes ≤ 65536 ⌝ }
     ensures { λ r. ⌜ stateOf r ≡ writingOn (stateOf object) from (vec-items bytes) ⌝ }
 {
     let to = object.next;
     let number = if object.number <= to { object.number + STRIDE } else { object.number };
-    Object { known: Known::Writing { from, to, bytes }, bar: object.bar, next: to + 1, number }
+    Object { known: Known::Writing(Writing { from, to, bytes }), bar: object.bar, next: to + 1, number }
 }
 
 // Finishes a writing, when all drives that are in have the new version and enough are in: it counts and is the bar, in the file.
@@ -83,7 +84,7 @@ pub fn finish(heap: Global, need: u8, present: &[bool], object: Object, entries:
     ensures { λ r. ⌜ Gives r (stateOf object) (finish-of (setupOf need (now (present .entry))) (stateOf object) (readingsOf (now (entries .entry)))) ⌝ }
 {
     let to = match &object.known {
-        Known::Writing { from: _, to, bytes: _ } => *to,
+        Known::Writing(writing) => writing.to,
         _ => return refuse(heap, object, Refusal::NotBeingWritten),
     };
     finish_to(heap, need, present, object, entries, to)
@@ -126,7 +127,7 @@ pub fn tidy(heap: Global, need: u8, present: &[bool], object: Object, drive: u8,
     }
     let version = match &object.known {
         Known::Unsure => return refuse(heap, object, Refusal::Unsure),
-        Known::Writing { .. } => return refuse(heap, object, Refusal::BeingWritten),
+        Known::Writing(_) => return refuse(heap, object, Refusal::BeingWritten),
         Known::Counts(version) => *version,
     };
     tidy_to(heap, need, present, object, drive, entries, version)
@@ -161,7 +162,7 @@ pub fn give_up(heap: Global, object: Object) -> Step
     ensures { λ r. ⌜ outcomeOf r ≡ giveUp (stateOf object) ⌝ }
 {
     match &object.known {
-        Known::Writing { .. } => {
+        Known::Writing(_) => {
             let object = Object { known: Known::Unsure, bar: object.bar, next: object.next, number: object.number };
             Step { answer: Answer::Unknown, effects: Vec::new(heap), object }
         }
