@@ -13,6 +13,7 @@ use Rattle.std.specs.declared.option.Option.the-variants.{Some, None}
 use Rattle.std.specs.declared.vec.Vec.{Vec}
 use Rattle.elimination.specs.Polynomial.{Bytes, Distinct}
 use Rattle.pieces.specs.Rows.{MAX, LAST, pieceOf}
+use Rattle.pieces.specs.declared.working.Piece.{Piece}
 use Rattle.slots.specs.Layout.{recordOf}
 use Rattle.keeper.specs.declared.object.Step.{Step}
 use Rattle.keeper.specs.Object.{Codec, Setup, State, Outcome, Reading}
@@ -25,6 +26,10 @@ onDrives ps = map (λ p. p .0) ps
 
 abbrev pub parts : List (ℕ × List ℕ) → List (List ℕ)
 parts ps = map (λ p. p .1) ps
+
+-- A piece as the code hands it on.
+abbrev pub pieceGiven : Piece → ℕ × List ℕ
+pieceGiven p = (p .drive, vec-items (p .bytes))
 
 -- A content has these pieces: as many as are needed, of different drives, each the one that writing the content makes there.
 pub record Fits (need : ℕ) (ps : List (ℕ × List ℕ)) (content : List ℕ) : Type 0 where

@@ -77,10 +77,14 @@ beginning s c (counts v) =
 abbrev pub begin : State → List ℕ → Outcome
 begin s c = unless s (ltb longest (length c)) TooLong (beginning s c (s .known))
 
+-- Bytes go to a place of a drive, and nothing else changes.
+abbrev pub placed : State → Reply → (d k : ℕ) → List ℕ → Outcome
+placed s r d k bytes = record { reply = r; acts = writeSlot d k bytes ∷ []; state = s }
+
 -- A piece goes to its place on a drive, if there is one.
 abbrev pub writeAt : Codec → State → (d v : ℕ) → List ℕ → Reply → Option ℕ → Outcome
 writeAt C s d v c r None = refuse s NoPlace
-writeAt C s d v c r (Some k) = record { reply = r; acts = writeSlot d k (C .encode d v (C .pieceOf d c)) ∷ []; state = s }
+writeAt C s d v c r (Some k) = placed s r d k (C .encode d v (C .pieceOf d c))
 
 -- Write a piece of the new version to a drive that is in.
 abbrev pub writingTo : Codec → Setup → State → ℕ → List Reading → Knowledge → Outcome

@@ -1,5 +1,7 @@
 // The keeper's steps: what is told, what is to be done outside, and the state afterwards.
 mod clearing;
+mod content;
+mod placing;
 pub mod object;
 pub mod refusal;
 pub mod readings;

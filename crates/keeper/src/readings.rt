@@ -45,7 +45,7 @@ pub fn is_holder(entries: &[Entry], drive: u8, version: u64) -> bool
 }
 
 // Whether a lower place of the same drive has the same version, so that the place of this one counts as free.
-fn is_copy(entries: &[Entry], copy: &Entry) -> bool
+pub fn is_copy(entries: &[Entry], copy: &Entry) -> bool
     ensures { λ r. ⌜ r ≡ copied-of (readingsOf (now (entries .entry))) (readingOf (now (copy .entry))) ⌝ }
 {
     for entry in entries {

@@ -29,7 +29,7 @@ const STRIDE: u64 = 1024;
 const LAST_NUMBER: u64 = 1 << 63;
 
 // Nothing changes, and the caller is told why.
-fn refuse(heap: Global, object: Object, why: Refusal) -> Step
+pub fn refuse(heap: Global, object: Object, why: Refusal) -> Step
     ensures { λ r. ⌜ outcomeOf r ≡ refusal-of (stateOf object) why ⌝ }
 {
     Step { answer: Answer::Refused(why), effects: Vec::new(heap), object }
