@@ -1,2 +1,5 @@
 mod Frame
+mod Joining
+mod Loops
+mod Uniqueness
 mod Values

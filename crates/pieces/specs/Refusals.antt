@@ -1,4 +1,4 @@
--- When a piece is not made and an object not worked out, by each case of the error; of the cases that may hold, the first in the code's order is told.
+-- When a piece is not made and an object not worked out, by each case of the error.
 -- Assumes nothing.
 use mathlib.Core.List.{List}
 use mathlib.Core.Logic.{_⊎_}
@@ -13,13 +13,13 @@ use Rattle.pieces.specs.declared.errors.PieceError.{PieceError}
 use Rattle.pieces.specs.declared.errors.PieceError.the-variants.{NeedOutOfRange, DriveOutOfRange, ObjectTooLong, TooFewPieces, TooManyPieces, DifferentLengths, SameDrive, LengthTooLarge, WrongRowCount, NotZeroFilled, NoMemory}
 use Rattle.pieces.specs.declared.working.Piece.{Piece}
 
--- Each case's number.
+-- Each case's number. Of the cases that hold, the lowest is told.
 abbrev pub number : PieceError → ℕ
 number NeedOutOfRange = 1
-number DriveOutOfRange = 2
-number ObjectTooLong = 3
-number TooFewPieces = 4
-number TooManyPieces = 5
+number TooFewPieces = 2
+number TooManyPieces = 3
+number DriveOutOfRange = 4
+number ObjectTooLong = 5
 number DifferentLengths = 6
 number SameDrive = 7
 number LengthTooLarge = 8
@@ -34,7 +34,7 @@ pub record Made (need drive : ℕ) (object piece : List ℕ) : Type 0 where
   pub length-is : length object ≤ MAX
   pub piece-is : piece ≡ pieceOf need drive object
 
--- When it is not made.
+-- When it is not made. Each case says that those with a lower number don't hold.
 abbrev pub NotMade : (need drive : ℕ) → List ℕ → PieceError → Type 0
 NotMade need drive object NeedOutOfRange = IsNeed need → ⊥
 NotMade need drive object DriveOutOfRange = IsNeed need × (IsDrive drive → ⊥)
@@ -66,7 +66,7 @@ NotRead need flat NoMemory = Long need flat × Filled flat
 abbrev pub Unreadable : (need : ℕ) → List Piece → PieceError → Type 0
 Unreadable need ps e = Sound need ps × (flat : List ℕ) × RowsOf need ps flat × NotRead need flat e
 
--- When an object is not worked out.
+-- When an object is not worked out. Each case says that those with a lower number don't hold; memory can be wanting before the rows are there.
 abbrev pub NotWorked : (need : ℕ) → List Piece → PieceError → Type 0
 NotWorked need ps NeedOutOfRange = IsNeed need → ⊥
 NotWorked need ps DriveOutOfRange = Enough need ps × (All IsDrive (drives ps) → ⊥)
