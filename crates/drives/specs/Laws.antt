@@ -21,7 +21,7 @@ OthersStand =
 abbrev pub LengthStands : Type 0
 LengthStands = (bytes slot : List ℕ) (o k : ℕ) → length slot ≡ length (slotAt bytes o k) → length (withSlot bytes o k slot) ≡ length bytes
 
-pub record Drives : Type 0 where
+pub record Apart : Type 0 where
   pub stands : SlotStands
   pub others : OthersStand
   pub long : LengthStands

@@ -1,0 +1,12 @@
+use native.Mathlib.Omega.{arith}
+use Rattle.drives.proofs.Finding.{sought-none, sought-here, sought-more, sought-all}
+use Rattle.drives.proofs.view.index_of.Needs as need
+
+pub returns-then-is-same : need.returns-then-is-same
+returns-then-is-same c = ?
+
+pub loop-place-again : need.loop-place-again
+loop-place-again c = ?
+
+pub returns : need.returns
+returns c = sought-all (c .args .wanted) (c .args .versions .now) (c .loop-place .place) (c .loop-place .inv) ?
