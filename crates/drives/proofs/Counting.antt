@@ -9,7 +9,7 @@ use Rattle.std.specs.Iters.{counting}
 use Rattle.std.specs.Options.{isSome}
 use Rattle.std.specs.declared.option.Option.{Option}
 use Rattle.std.specs.declared.option.Option.the-variants.{Some, None}
-use Rattle.std.proofs.shelf.Lists.{append-nil, append-assoc, map-id}
+use Rattle.std.proofs.shelf.Lists.{append-nil, append-assoc, map-id, length-map, ext-getD}
 use Rattle.std.proofs.shelf.Counted.{getD-map-counting, fill-by-all}
 use Rattle.slots.specs.Slot.{Slot, empty, readSlot}
 use Rattle.drives.specs.Place.{slotAt, readings}
@@ -22,6 +22,10 @@ length-readings bytes o d = refl
 pub getD-readings : (bytes : List ℕ) (o d k : ℕ) → k < 4 → getD (readings bytes o d) k empty ≡ readSlot o d (slotAt bytes o k)
 unfolding readings
 getD-readings bytes o d k h = getD-map-counting (λ i. readSlot o d (slotAt bytes o i)) 0 4 k k empty h (omega arith)
+
+-- What is read of a slot's part.
+pub read-at : (bytes slot : List ℕ) (o d k : ℕ) → k < 4 → slot ≡ slotAt bytes o k → readSlot o d slot ≡ getD (readings bytes o d) k empty
+read-at bytes slot o d k h e = ap (readSlot o d) e ∙ sym (getD-readings bytes o d k h)
 
 -- An array that has the version of each place.
 pub readings-filled : (bytes : List ℕ) (o d : ℕ) (xs : List (Option ℕ)) → length xs ≡ 4 →
@@ -59,3 +63,11 @@ map-firstsAfter e (s ∷ ss) =
 
 pub firsts-readings : (ss : List Slot) → firsts (map versionOf ss) ≡ map versionOf (distinct ss)
 firsts-readings ss = map-firstsAfter [] ss
+
+-- An array that has what counts at each place.
+pub firsts-filled : (bytes : List ℕ) (o d : ℕ) (all xs : List (Option ℕ)) → all ≡ map versionOf (readings bytes o d) → length xs ≡ 4 →
+    ((k : ℕ) → k < 4 → getD xs k None ≡ getD (firsts all) k None) → xs ≡ map versionOf (distinct (readings bytes o d))
+firsts-filled bytes o d all xs e long each =
+    let four : length (firsts all) ≡ 4 =
+      length-firstsAfter (λ v. v) None [] all ∙ ap length e ∙ length-map (readings bytes o d) versionOf ∙ length-readings bytes o d in
+    ext-getD None xs (firsts all) (long ∙ sym four) (λ i h. each i (omega arith)) ∙ ap firsts e ∙ firsts-readings (readings bytes o d)

@@ -22,13 +22,6 @@ shifted : (i : ℕ) (r : Option ℕ) → mapped (λ k. k + i) (mapped (λ k. k +
 shifted i None = refl
 shifted i (Some k) = let e : k + 1 + i ≡ k + (i + 1) = omega arith in ap Some e
 
-pub sought-none : (w : Option ℕ) (xs : List (Option ℕ)) → Sought w xs 0
-sought-none w xs = sym (unshifted (indexOf w xs))
-  where
-    unshifted : (r : Option ℕ) → mapped (λ k. k + 0) r ≡ r
-    unshifted None = refl
-    unshifted (Some k) = let e : k + 0 ≡ k = omega arith in ap Some e
-
 pub sought-here : (w : Option ℕ) (xs : List (Option ℕ)) (i : ℕ) → Sought w xs i → i < length xs → true ≡ same w (getD xs i None) → Some i ≡ indexOf w xs
 sought-here w xs i inv h t =
     let y = getD xs i None in

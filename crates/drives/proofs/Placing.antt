@@ -9,11 +9,17 @@ use lib.ListN.{length}
 use Rattle.std.specs.Options.{mapped, Cases}
 use Rattle.std.specs.declared.option.Option.{Option}
 use Rattle.std.specs.declared.option.Option.the-variants.{Some, None}
+use Rattle.std.specs.declared.result.Result.the-variants.{Ok, Err}
 use Rattle.std.proofs.shelf.Lists.{length-map}
-use Rattle.slots.specs.Slot.{Slot, empty}
-use Rattle.drives.specs.Place.{readings}
+use Rattle.std.proofs.shelf.Tests.{cond-true, cond-false}
+use Rattle.slots.specs.Slot.{Slot, empty, hasRoom, written}
+use Rattle.slots.proofs.Writing.{written-none}
+use Rattle.drives.specs.Place.{slotAt, withSlot, readings}
+use Rattle.drives.specs.Steps.{answerAt, writtenAt, writeAnswer, afterWrite}
+use Rattle.drives.specs.declared.piece.Unwritten.the-variants.{NoRoom}
 use Rattle.drives.specs.View.{same, indexOf, orElse, placeIn, placeFor, versionOf, distinct}
 use Rattle.drives.proofs.Counting.{length-readings, length-firstsAfter}
+use Rattle.drives.proofs.Standing.{slot-same}
 
 -- A place that there is one of.
 abbrev pub Within : ℕ → Option ℕ → Type 0
@@ -42,3 +48,23 @@ place-within v bytes o d =
 
 pub place-below : (v k : ℕ) (bytes : List ℕ) (o d : ℕ) → Some k ≡ placeFor v (readings bytes o d) → k < 4
 place-below v k bytes o d e = let P : Option ℕ → Type 0 = λ r. Within 4 r in mathlib.Core.Path.subst P (sym e) (place-within v bytes o d)
+
+-- The answer to a writing and the drive after it, once the place is known.
+pub answer-there : (bytes p : List ℕ) (o d v k : ℕ) → Some k ≡ placeFor v (readings bytes o d) → true ≡ hasRoom (slotAt bytes o k) p → Ok k ≡ writeAnswer bytes o d v p
+answer-there bytes p o d v k e t = sym (ap (answerAt bytes o p) (sym e) ∙ cond-true (hasRoom (slotAt bytes o k) p) (Ok k) (Err NoRoom) (sym t))
+
+pub answer-full : (bytes p : List ℕ) (o d v k : ℕ) → Some k ≡ placeFor v (readings bytes o d) → false ≡ hasRoom (slotAt bytes o k) p → Err NoRoom ≡ writeAnswer bytes o d v p
+answer-full bytes p o d v k e t = sym (ap (answerAt bytes o p) (sym e) ∙ cond-false (hasRoom (slotAt bytes o k) p) (Ok k) (Err NoRoom) (sym t))
+
+pub after-there : (bytes last p : List ℕ) (o d v k : ℕ) → Some k ≡ placeFor v (readings bytes o d) → true ≡ hasRoom (slotAt bytes o k) p →
+    last ≡ withSlot bytes o k (written o d v p (slotAt bytes o k)) → last ≡ afterWrite bytes o d v p
+after-there bytes last p o d v k e t f =
+    let new = withSlot bytes o k (written o d v p (slotAt bytes o k)) in
+    f ∙ sym (ap (writtenAt bytes o d v p) (sym e) ∙ cond-true (hasRoom (slotAt bytes o k) p) new bytes (sym t))
+
+pub after-full : (bytes last p : List ℕ) (o d v k : ℕ) → Some k ≡ placeFor v (readings bytes o d) → false ≡ hasRoom (slotAt bytes o k) p →
+    last ≡ withSlot bytes o k (written o d v p (slotAt bytes o k)) → last ≡ afterWrite bytes o d v p
+after-full bytes last p o d v k e t f =
+    let new = withSlot bytes o k (written o d v p (slotAt bytes o k)) in
+    f ∙ ap (withSlot bytes o k) (sym (written-none o d v p (slotAt bytes o k) t)) ∙ slot-same bytes o k
+    ∙ sym (ap (writtenAt bytes o d v p) (sym e) ∙ cond-false (hasRoom (slotAt bytes o k) p) new bytes (sym t))

@@ -101,11 +101,11 @@ pub fn take_away(drive: &mut [u8], object: u8, number: u8, rule: Rule) -> usize
     ensures answer { λ r. ⌜ r ≡ howManyNamed (now (drive .entry)) object number rule ⌝ }
     ensures after { λ _. ⌜ now (drive .exit) ≡ afterTaking (now (drive .entry)) object number rule ⌝ }
 {
-    let mut taken = 0;
+    let mut gone = 0;
     for place in 0..PLACES {
         if take_at(drive, object, number, place, rule) {
-            taken += 1;
+            gone += 1;
         }
     }
-    taken
+    gone
 }

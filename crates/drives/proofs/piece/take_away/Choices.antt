@@ -10,4 +10,4 @@ use Rattle.drives.proofs.piece.take_away.Given as given
 abbrev pub Inv-loop-place : given.InvT-loop-place
 Inv-loop-place l =
     (l .drive ≡ takenBelow (l .place) (l .entry .drive) (l .object) (l .number) (l .rule)) ×
-    (l .taken ≡ countBy (namesSlot (l .rule)) (take (l .place) (readings (l .entry .drive) (l .object) (l .number)))) × (l .taken ≤ l .place)
+    (l .gone ≡ countBy (namesSlot (l .rule)) (take (l .place) (readings (l .entry .drive) (l .object) (l .number)))) × (l .gone ≤ l .place)

@@ -1,10 +1,21 @@
-use borrow.Author.Needs.{needs}
+use Rattle.drives.proofs.Placing.{place-below, answer-there, answer-full, after-there, after-full}
 use Rattle.drives.proofs.piece.write_piece.Needs as need
 
--- src/piece.rt:67:8
 pub write-at-requires : need.write-at-requires
-write-at-requires c κs = ?
+write-at-requires c κs = place-below (c .args .version) (c .in-Some .place) (c .args .drive .now) (c .args .object) (c .args .number) (c .in-Some .ensures tt)
 
--- src/piece.rt:60:1
 pub returns-else-write-at : need.returns-else-write-at
-returns-else-write-at c = ?
+returns-else-write-at c =
+    let there = c .in-Some .ensures tt in
+    let full = c .if-write-at .ensures tt .answer in
+    record {
+      answer = answer-full (c .args .drive .now) (c .args .piece .now) (c .args .object) (c .args .number) (c .args .version) (c .in-Some .place) there full;
+      after = after-full (c .args .drive .now) (c .write-at .last .drive) (c .args .piece .now) (c .args .object) (c .args .number) (c .args .version) (c .in-Some .place) there full (c .write-at .ensures .after) }
+
+pub returns : need.returns
+returns c =
+    let there = c .in-Some .ensures tt in
+    let room = c .if-write-at .ensures tt .answer in
+    record {
+      answer = answer-there (c .args .drive .now) (c .args .piece .now) (c .args .object) (c .args .number) (c .args .version) (c .in-Some .place) there room;
+      after = after-there (c .args .drive .now) (c .write-at .last .drive) (c .args .piece .now) (c .args .object) (c .args .number) (c .args .version) (c .in-Some .place) there room (c .write-at .ensures .after) }
