@@ -50,17 +50,8 @@ pub place-below : (v k : ℕ) (bytes : List ℕ) (o d : ℕ) → Some k ≡ plac
 place-below v k bytes o d e = let P : Option ℕ → Type 0 = λ r. Within 4 r in mathlib.Core.Path.subst P (sym e) (place-within v bytes o d)
 
 -- The answer to a writing and the drive after it, once the place is known.
-pub answer-there : (bytes p : List ℕ) (o d v k : ℕ) → Some k ≡ placeFor v (readings bytes o d) → true ≡ hasRoom (slotAt bytes o k) p → Ok k ≡ writeAnswer bytes o d v p
-answer-there bytes p o d v k e t = sym (ap (answerAt bytes o p) (sym e) ∙ cond-true (hasRoom (slotAt bytes o k) p) (Ok k) (Err NoRoom) (sym t))
-
 pub answer-full : (bytes p : List ℕ) (o d v k : ℕ) → Some k ≡ placeFor v (readings bytes o d) → false ≡ hasRoom (slotAt bytes o k) p → Err NoRoom ≡ writeAnswer bytes o d v p
 answer-full bytes p o d v k e t = sym (ap (answerAt bytes o p) (sym e) ∙ cond-false (hasRoom (slotAt bytes o k) p) (Ok k) (Err NoRoom) (sym t))
-
-pub after-there : (bytes last p : List ℕ) (o d v k : ℕ) → Some k ≡ placeFor v (readings bytes o d) → true ≡ hasRoom (slotAt bytes o k) p →
-    last ≡ withSlot bytes o k (written o d v p (slotAt bytes o k)) → last ≡ afterWrite bytes o d v p
-after-there bytes last p o d v k e t f =
-    let new = withSlot bytes o k (written o d v p (slotAt bytes o k)) in
-    f ∙ sym (ap (writtenAt bytes o d v p) (sym e) ∙ cond-true (hasRoom (slotAt bytes o k) p) new bytes (sym t))
 
 pub after-full : (bytes last p : List ℕ) (o d v k : ℕ) → Some k ≡ placeFor v (readings bytes o d) → false ≡ hasRoom (slotAt bytes o k) p →
     last ≡ withSlot bytes o k (written o d v p (slotAt bytes o k)) → last ≡ afterWrite bytes o d v p

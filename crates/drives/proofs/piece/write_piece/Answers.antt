@@ -1,4 +1,4 @@
-use Rattle.drives.proofs.Placing.{place-below, answer-there, answer-full, after-there, after-full}
+use Rattle.drives.proofs.Placing.{place-below, answer-full, after-full}
 use Rattle.drives.proofs.piece.write_piece.Needs as need
 
 pub write-at-requires : need.write-at-requires
@@ -11,11 +11,3 @@ returns-else-write-at c =
     record {
       answer = answer-full (c .args .drive .now) (c .args .piece .now) (c .args .object) (c .args .number) (c .args .version) (c .in-Some .place) there full;
       after = after-full (c .args .drive .now) (c .write-at .last .drive) (c .args .piece .now) (c .args .object) (c .args .number) (c .args .version) (c .in-Some .place) there full (c .write-at .ensures .after) }
-
-pub returns : need.returns
-returns c =
-    let there = c .in-Some .ensures tt in
-    let room = c .if-write-at .ensures tt .answer in
-    record {
-      answer = answer-there (c .args .drive .now) (c .args .piece .now) (c .args .object) (c .args .number) (c .args .version) (c .in-Some .place) there room;
-      after = after-there (c .args .drive .now) (c .write-at .last .drive) (c .args .piece .now) (c .args .object) (c .args .number) (c .args .version) (c .in-Some .place) there room (c .write-at .ensures .after) }
