@@ -4,3 +4,4 @@ pub mod Counting
 pub mod Standing
 pub mod Placing
 pub mod Taking
+pub mod Rereads

@@ -6,6 +6,7 @@ mod rule;
 mod states;
 mod view;
 
+pub use laws::readings_stand;
 pub use laws::slots_apart;
 pub use layout::OBJECTS;
 pub use layout::PLACES;
