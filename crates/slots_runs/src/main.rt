@@ -27,28 +27,10 @@ fn fill(bytes: &mut [u8], seed: u32) -> u32 {
     seed
 }
 
-// A thousand short inputs, from none to 999 bytes.
-fn short_sums(rt: &impl Print) -> io::Result<()> {
-    let mut buffer = [0u8; 1000];
+// The sums of inputs from the generator, of each length from one up to another.
+fn sums(rt: &impl Print, bytes: &mut [u8], from: usize, to: usize) -> io::Result<()> {
     let mut seed = 1;
-    for len in 0..1000usize {
-        let input = &mut buffer[0..len];
-        seed = fill(input, seed);
-        let sum = adler(input);
-        println!(rt, "{sum}")?;
-    }
-    Ok(())
-}
-
-// Long inputs: all bytes 255, and ten from the generator that end around a multiple of the code's own blocks.
-fn long_sums(rt: &(impl Print + Alloc)) -> io::Result<()> {
-    let mut buffer = vec![in rt.alloc(); 255u8; LONGEST]?;
-    let sum = adler(buffer.as_slice());
-    println!(rt, "{sum}")?;
-    let bytes = buffer.as_mut_slice();
-    let mut seed = 1;
-    for k in 0..10usize {
-        let len = 2043 + k;
+    for len in from..to {
         if len <= bytes.len() {
             let input = &mut bytes[0..len];
             seed = fill(input, seed);
@@ -57,6 +39,16 @@ fn long_sums(rt: &(impl Print + Alloc)) -> io::Result<()> {
         }
     }
     Ok(())
+}
+
+// A thousand short inputs, from none to 999 bytes; the longest, of bytes 255; and some that end around the code's own blocks.
+fn all_sums(rt: &(impl Print + Alloc)) -> io::Result<()> {
+    let mut buffer = vec![in rt.alloc(); 255u8; LONGEST]?;
+    let sum = adler(buffer.as_slice());
+    println!(rt, "{sum}")?;
+    let bytes = buffer.as_mut_slice();
+    sums(rt, bytes, 0, 1000)?;
+    sums(rt, bytes, 2043, 2053)
 }
 
 // How many of the 255 other values at a place leave a slot that reads as nothing. The slot is then as it was.
@@ -94,7 +86,6 @@ fn changes(rt: &impl Print) -> io::Result<()> {
 }
 
 fn main(rt: LibcRuntime) -> io::Result<()> {
-    short_sums(&rt)?;
-    long_sums(&rt)?;
+    all_sums(&rt)?;
     changes(&rt)
 }
