@@ -2,12 +2,14 @@
 use mathlib.Core.Path.{_≡_, refl, sym, ap, subst, _∙_}
 use mathlib.Core.Logic.{_⊎_, inl, inr}
 use mathlib.Core.List.{List, [], _∷_, map}
-use Prim.Native.Nat.{ℕ, zero, suc, _+_, _*_, _<_, _≤_}
-use native.Mathlib.Nat.{add-zero}
+use Prim.Native.Nat.{ℕ, zero, suc, _+_, _*_, _/_, _%_, _<_, _≤_}
+use native.Mathlib.Nat.{add-zero, div-add-mod'}
 use native.Mathlib.Omega.{arith}
 use Rattle.std.specs.Iters.{counting}
 use Rattle.std.specs.shelf.Lists.{length, getD}
 use Rattle.std.proofs.shelf.Counted.{length-map-counting, getD-map-counting}
+use Rattle.std.proofs.shelf.Elements.{all-from-getD}
+use Rattle.std.proofs.shelf.Bits.{div-below, mod-below}
 use Rattle.std.proofs.shelf.Tests.{cases-eq, cases-lt}
 use Rattle.bytes.specs.Byte.{add, mul, inv, IsByte}
 use Rattle.bytes.proofs.Laws as laws
@@ -25,9 +27,17 @@ pub counted-bytes : (f : ℕ → ℕ) (a n : ℕ) → ((i : ℕ) → IsByte (f i
 counted-bytes f a zero h = tt
 counted-bytes f a (suc n) h = (h a, counted-bytes f (a + 1) n h)
 
-module _ (k w q : ℕ) (first m : List ℕ) (red : Reduced k w q first m) (b : Bytes m) where
+-- A matrix whose cells are bytes is a list of bytes.
+cells-bytes : (k w : ℕ) (m : List ℕ) → 0 < w → length m ≡ k * w → ((i t : ℕ) → i < k → t < w → IsByte (cell w m i t)) → Bytes m
+cells-bytes k w m some long h =
+    all-from-getD IsByte m 0
+      (λ n l.
+        let P : ℕ → Type 0 = λ j. IsByte (getD m j 0) in
+        subst P (div-add-mod' n w) (h (n / w) (n % w) (div-below n w k some (omega arith)) (mod-below n w some)))
+
+module _ (k w q : ℕ) (first m : List ℕ) (red : Reduced k w q first m) where
   column-bytes : (c : ℕ) → Bytes (column q w m c)
-  column-bytes c = counted-bytes (λ i. cell w m i c) 0 q (λ i. byte-at m (i * w + c) b)
+  column-bytes c = counted-bytes (λ i. cell w m i c) 0 q (λ i. byte-at m (i * w + c) (red .bytes))
 
   -- A column that has only zeros below the reduced rows is a combination of the reduced ones.
   pub spanned :
@@ -40,7 +50,7 @@ module _ (k w q : ℕ) (first m : List ℕ) (red : Reduced k w q first m) (b : B
           let zs : List ℕ = column q w m c in
           let long : length zs ≡ q = length-map-counting (λ i. cell w m i c) 0 q in
           let last : cell w m i (length zs + r) ≡ cell w m i c = ap (λ (n : ℕ). cell w m i (n + r)) long in
-          let hc : IsByte (cell w m i (length zs + r)) = byte-at m (i * w + (length zs + r)) b in
+          let hc : IsByte (cell w m i (length zs + r)) = byte-at m (i * w + (length zs + r)) (red .bytes) in
           let split : combine (withOne zs r) (cell w m i) ≡ add (combine zs (cell w m i)) (cell w m i (length zs + r)) = withOne-combine zs r (cell w m i) hc in
           elim (cases-lt i q)
             [ inl l ↦
@@ -67,20 +77,23 @@ module _ (k w q : ℕ) (first m : List ℕ) (red : Reduced k w q first m) (b : B
 
 -- When all columns are reduced, a further column has the coefficients that combine the first columns to it.
 pub solved :
-  (k w : ℕ) (first m : List ℕ) → Reduced k w k first m → Bytes m → Bytes first → (r : ℕ) → k + r < w → (i : ℕ) → i < k →
+  (k w : ℕ) (first m : List ℕ) → Reduced k w k first m → Bytes first → (r : ℕ) → k + r < w → (i : ℕ) → i < k →
   combine (column k w m (k + r)) (cell w first i) ≡ cell w first i (k + r)
-solved k w first m red b bf r hr i hi =
+solved k w first m red bf r hr i hi =
     let zs : List ℕ = column k w m (k + r) in
     let long : length zs ≡ k = length-map-counting (λ i. cell w m i (k + r)) 0 k in
     let long′ : length (withOne zs r) ≡ suc (length zs + r) = withOne-length zs r in
-    let zs-bytes : Bytes (withOne zs r) = withOne-bytes zs r (column-bytes k w k first m red b (k + r)) in
+    let zs-bytes : Bytes (withOne zs r) = withOne-bytes zs r (column-bytes k w k first m red (k + r)) in
     let zero′ : combine (withOne zs r) (cell w first i) ≡ 0 =
-      red .kept (withOne zs r) zs-bytes (omega arith) (spanned k w k first m red b r (omega arith) (λ j l h. absurd (omega arith))) .at i hi in
+      red .kept (withOne zs r) zs-bytes (omega arith) (spanned k w k first m red r (omega arith) (λ j l h. absurd (omega arith))) .at i hi in
     let split : combine (withOne zs r) (cell w first i) ≡ add (combine zs (cell w first i)) (cell w first i (length zs + r)) =
       withOne-combine zs r (cell w first i) (byte-at first (i * w + (length zs + r)) bf) in
     let last : cell w first i (length zs + r) ≡ cell w first i (k + r) = ap (λ (n : ℕ). cell w first i (n + r)) long in
     laws.add-is-zero (combine zs (cell w first i)) (cell w first i (k + r)) (combine-byte zs (cell w first i)) (byte-at first (i * w + (k + r)) bf)
       (cc (zero′, split, last))
+
+byte-of : {a b : ℕ} → a ≡ b → IsByte b → IsByte a
+byte-of e h = omega arith
 
 -- What a quotient is for.
 quotient-is : (a p : ℕ) → IsByte a → IsByte p → 1 ≤ p → mul (mul a (inv p)) p ≡ a
@@ -113,7 +126,7 @@ module _ (k w q p : ℕ) (first m m′ : List ℕ) (red : Reduced k w q first m)
   s = leading w q p m
 
   byte : (i t : ℕ) → IsByte (cell w m i t)
-  byte i t = byte-at m (i * w + t) (led .bytes)
+  byte i t = byte-at m (i * w + t) (red .bytes)
 
   s-byte : IsByte s
   s-byte = laws.mul-byte (add 1 (cell w m q q)) (inv (cell w m p q))
@@ -151,11 +164,19 @@ module _ (k w q p : ℕ) (first m m′ : List ℕ) (red : Reduced k w q first m)
   led-reduced =
       record
         { long = led .long ∙ red .long
+        ; bytes = cells-bytes k w m′ (omega arith) (led .long ∙ red .long) (λ i t hi ht. bytes i t ht)
         ; one = λ i h. led .elsewhere i i (omega arith) (λ e. omega arith) ∙ red .one i h
         ; none = none
         ; kept = λ zs b l v. red .kept zs b l (record { at = at zs b l v })
         }
     where
+      bytes : (i t : ℕ) → t < w → IsByte (cell w m′ i t)
+      bytes i t ht =
+          elim (cases-eq i q)
+            [ inl e ↦ byte-of (ap (λ (j : ℕ). cell w m′ j t) e ∙ led .there t ht) (laws.add-byte (cell w m q t) (mul s (cell w m p t)))
+            | inr ne ↦ byte-of (led .elsewhere i t ht ne) (byte i t)
+            ]
+
       none : (i t : ℕ) → i < k → t < q → (i ≡ t → ⊥) → cell w m′ i t ≡ 0
       none i t hi ht ne =
           elim (cases-eq i q)
@@ -176,18 +197,26 @@ module _ (k w q p : ℕ) (first m m′ : List ℕ) (red : Reduced k w q first m)
 
 -- With the diagonal 1, the other rows cleared in column q: one column more is reduced.
 pub cleared-reduced :
-  (k w q : ℕ) (first m m′ : List ℕ) → Reduced k w q first m → Cleared k w q m m′ → Bytes m → cell w m q q ≡ 1 → q < k → k ≤ w →
+  (k w q : ℕ) (first m m′ : List ℕ) → Reduced k w q first m → Cleared k w q m m′ → cell w m q q ≡ 1 → q < k → k ≤ w →
   Reduced k w (q + 1) first m′
-cleared-reduced k w q first m m′ red clear b one-q hq hk =
+cleared-reduced k w q first m m′ red clear one-q hq hk =
     record
       { long = clear .long ∙ red .long
+      ; bytes = cells-bytes k w m′ (omega arith) (clear .long ∙ red .long) bytes
       ; one = one
       ; none = none
       ; kept = λ zs bz l v. red .kept zs bz l (record { at = at zs bz l v })
       }
   where
     byte : (i t : ℕ) → IsByte (cell w m i t)
-    byte i t = byte-at m (i * w + t) b
+    byte i t = byte-at m (i * w + t) (red .bytes)
+
+    bytes : (i t : ℕ) → i < k → t < w → IsByte (cell w m′ i t)
+    bytes i t hi ht =
+        elim (cases-eq i q)
+          [ inl e ↦ byte-of (ap (λ (j : ℕ). cell w m′ j t) e ∙ clear .same t ht) (byte q t)
+          | inr ne ↦ byte-of (clear .there i t hi ht ne) (laws.add-byte (cell w m i t) (mul (cell w m i q) (cell w m q t)))
+          ]
 
     one : (i : ℕ) → i < q + 1 → cell w m′ i i ≡ 1
     one i h =

@@ -1,6 +1,9 @@
 // Polynomials over bytes, and their coefficients worked out of their values by elimination.
 ghost use Rattle.elimination.specs.Polynomial.{Determined};
 
+mod reduction;
+mod rows;
+
 // Why no polynomials came out.
 #[derive(Clone, Copy, Debug, PartialEq, Eq)]
 pub enum Unsolved {
