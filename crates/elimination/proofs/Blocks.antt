@@ -1,12 +1,15 @@
 -- Blocks of one length, one after the other: where each stands, and that they make up the list.
 use mathlib.Core.Path.{_≡_, refl, sym, ap, _∙_}
 use mathlib.Core.Logic.{inl, inr}
-use mathlib.Core.List.{List, [], _∷_, _++_}
+use mathlib.Core.List.{List, [], _∷_, _++_, map}
 use Prim.Native.Nat.{ℕ, zero, suc, _+_, _-_, _*_, _/_, _%_, _<_, _≤_}
 use native.Mathlib.Nat.{suc-mul, zero-mul, mul-le-mul-right, div-add-mod'}
+use native.Mathlib.Numerals.{add-one}
 use native.Mathlib.Omega.{arith}
+use Rattle.std.specs.Iters.{counting}
 use Rattle.std.specs.shelf.Lists.{length, getD, take, drop, All}
-use Rattle.std.proofs.shelf.Lists.{length-append, length-take-le, take-append-le, drop-append-le, drop-at, take-all, getD-take, getD-drop, ext-getD, length-drop}
+use Rattle.std.proofs.shelf.Lists.{length-append, length-take-le, take-append-le, drop-append-le, drop-at, take-all, getD-take, getD-drop, ext-getD, length-drop, append-assoc}
+use Rattle.std.proofs.shelf.Counted.{map-counting-more}
 use Rattle.std.proofs.shelf.Elements.{all-append}
 use Rattle.std.proofs.shelf.Bits.{div-below, mod-below}
 use Rattle.std.proofs.shelf.Tests.{cases-lt}
@@ -67,3 +70,11 @@ same-blocks w n v u hw lv lu same = ext-getD 0 v u (lv ∙ sym lu) at
     at : (i : ℕ) → i < length v → getD v i 0 ≡ getD u i 0
     at i h =
         block v i ∙ ap (λ (xs : List ℕ). getD xs (i % w) 0) (same (i / w) (div-below i w n hw (omega arith))) ∙ sym (block u i)
+
+-- One block more, and in a block one element more: what a loop that pushes adds.
+pub blocks-more : (f : ℕ → List ℕ) (n : ℕ) → blocks f n ++ f n ≡ blocks f (n + 1)
+unfolding blocks
+blocks-more f n = rw add-one
+
+pub counted-more : (s : List ℕ) (f : ℕ → ℕ) (t : ℕ) → (s ++ map f (counting 0 t)) ++ f t ∷ [] ≡ s ++ map f (counting 0 (t + 1))
+counted-more s f t = append-assoc s (map f (counting 0 t)) (f t ∷ []) ∙ ap (λ (l : List ℕ). s ++ l) (sym (map-counting-more f 0 t t (omega arith)))

@@ -14,7 +14,7 @@ use Rattle.std.proofs.shelf.Tests.{cases-eq, cases-lt}
 use Rattle.bytes.specs.Byte.{add, mul, inv, IsByte}
 use Rattle.bytes.proofs.Laws as laws
 use Rattle.elimination.specs.Polynomial.{Bytes}
-use Rattle.elimination.specs.Matrix.{cell, column, combine, Vanishes, Independent, Reduced, Led, Cleared, leading}
+use Rattle.elimination.specs.Matrix.{cell, column, combine, Vanishes, Independent, Reduced, RowAdded, Led, Cleared, leading}
 use Rattle.elimination.proofs.Combine.{combine-byte, combine-add, combine-same, combine-zero, combine-unit, withOne, withOne-length, withOne-bytes, withOne-some, withOne-combine}
 
 -- An element of a list of bytes is a byte, and so is what is read past its end.
@@ -260,3 +260,36 @@ cleared-reduced k w q first m m′ red clear one-q hq hk =
               combine-add zs (cell w m i) (cell w m q) (cell w m′ i) (cell w m i q) bz (byte i q) (byte q) (λ t lt. clear .there i t hi (omega arith) ne) in
             vanished (combine zs (cell w m i)) (combine zs (cell w m q)) (cell w m i q) (combine zs (cell w m′ i)) (combine-byte zs (cell w m i)) sum (v .at i hi) row-q
           ]
+
+-- One row more is cleared, or, if it is row q, passed over.
+pub clear-more :
+  (i w q : ℕ) (row first m m′ : List ℕ) → Cleared i w q first m → RowAdded w i (cell w m i q) row m m′ →
+  ((t : ℕ) → t < w → getD row t 0 ≡ cell w first q t) → q < w → (i ≡ q → ⊥) → Cleared (i + 1) w q first m′
+clear-more i w q row first m m′ clear added copied hq ne =
+    record
+      { long = added .long ∙ clear .long
+      ; there = there
+      ; after = λ j t l h. added .elsewhere j t h (λ e. omega arith) ∙ clear .after j t (omega arith) h
+      ; same = λ t h. added .elsewhere q t h (λ e. ne (sym e)) ∙ clear .same t h
+      }
+  where
+    there : (j t : ℕ) → j < i + 1 → t < w → (j ≡ q → ⊥) → cell w m′ j t ≡ add (cell w first j t) (mul (cell w first j q) (cell w first q t))
+    there j t l h ne′ =
+        elim (cases-eq j i)
+          [ inl e ↦
+            let sum : cell w m′ i t ≡ add (cell w m i t) (mul (cell w m i q) (getD row t 0)) = added .there t h in
+            let here : cell w m′ i t ≡ add (cell w first i t) (mul (cell w first i q) (cell w first q t)) =
+              cc (sum, clear .after i t (omega arith) h, clear .after i q (omega arith) hq, copied t h) in
+            ap (λ (n : ℕ). cell w m′ n t) e ∙ here
+            ∙ ap (λ (n : ℕ). add (cell w first n t) (mul (cell w first n q) (cell w first q t))) (sym e)
+          | inr ne″ ↦ added .elsewhere j t h ne″ ∙ clear .there j t (omega arith) h ne′
+          ]
+
+pub clear-skip : (i w q : ℕ) (first m : List ℕ) → Cleared i w q first m → i ≡ q → Cleared (i + 1) w q first m
+clear-skip i w q first m clear e =
+    record
+      { long = clear .long
+      ; there = λ j t l h ne. clear .there j t (let apart : j ≡ i → ⊥ = λ e′. ne (e′ ∙ e) in omega arith) h ne
+      ; after = λ j t l h. clear .after j t (omega arith) h
+      ; same = clear .same
+      }

@@ -39,6 +39,10 @@ matrixOf points values width = blocks (rowOf points values width) (length points
 abbrev pub column : (k w : ℕ) (m : List ℕ) (c : ℕ) → List ℕ
 column k w m c = map (λ i. cell w m i c) (counting 0 k)
 
+-- What stands in the columns past the first k of a matrix with k rows, column after column.
+abbrev pub furtherColumns : (k width : ℕ) (m : List ℕ) → List ℕ
+furtherColumns k width m = blocks (λ r. column k (k + width) m (k + r)) width
+
 -- The sum of the products of coefficients with what stands at their places.
 unfoldable pub combine : List ℕ → (ℕ → ℕ) → ℕ
 combine [] f = 0
