@@ -32,19 +32,19 @@ module _ (f : ℕ → List ℕ) (w : ℕ) where
   block-at (suc n) i each h =
       let each′ : (i : ℕ) → i < n → length (f i) ≡ w = λ j l. each j (omega arith) in
       let long : length (blocks f n) ≡ n * w = length-blocks n each′ in
-      elim (cases-lt i n)
-        [ inl l ↦
-          let inside : suc i * w ≤ n * w = mul-le-mul-right w l in
-          let next : suc i * w ≡ i * w + w = suc-mul i w in
-          let drops : drop (i * w) (blocks f n ++ f n) ≡ drop (i * w) (blocks f n) ++ f n = drop-append-le (i * w) (blocks f n) (f n) (omega arith) in
-          let left : length (drop (i * w) (blocks f n)) ≡ length (blocks f n) - i * w = length-drop (i * w) (blocks f n) in
-          ap (take w) drops ∙ take-append-le w (drop (i * w) (blocks f n)) (f n) (omega arith) ∙ block-at n i each′ l
+      elim (cases-lt i n) [
+        | inl l ↦
+            let inside : suc i * w ≤ n * w = mul-le-mul-right w l in
+            let next : suc i * w ≡ i * w + w = suc-mul i w in
+            let drops : drop (i * w) (blocks f n ++ f n) ≡ drop (i * w) (blocks f n) ++ f n = drop-append-le (i * w) (blocks f n) (f n) (omega arith) in
+            let left : length (drop (i * w) (blocks f n)) ≡ length (blocks f n) - i * w = length-drop (i * w) (blocks f n) in
+            ap (take w) drops ∙ take-append-le w (drop (i * w) (blocks f n)) (f n) (omega arith) ∙ block-at n i each′ l
         | inr l ↦
-          let same : i ≡ n = omega arith in
-          let drops : drop (n * w) (blocks f n ++ f n) ≡ f n = drop-at (blocks f n) (f n) (n * w) long in
-          let last : length (f n) ≡ w = each n (omega arith) in
-          ap (λ (j : ℕ). take w (drop (j * w) (blocks f n ++ f n))) same ∙ ap (take w) drops ∙ take-all w (f n) (omega arith) ∙ ap f (sym same)
-        ]
+            let same : i ≡ n = omega arith in
+            let drops : drop (n * w) (blocks f n ++ f n) ≡ f n = drop-at (blocks f n) (f n) (n * w) long in
+            let last : length (f n) ≡ w = each n (omega arith) in
+            ap (λ (j : ℕ). take w (drop (j * w) (blocks f n ++ f n))) same ∙ ap (take w) drops ∙ take-all w (f n) (omega arith) ∙ ap f (sym same)
+      ]
 
   pub getD-blocks : (n i t : ℕ) → ((i : ℕ) → i < n → length (f i) ≡ w) → i < n → t < w → getD (blocks f n) (i * w + t) 0 ≡ getD (f i) t 0
   getD-blocks n i t each h l =
@@ -58,8 +58,8 @@ all-blocks P f (suc n) h = all-append P (blocks f n) (f n) (all-blocks P f n h) 
 
 -- Lists with the same blocks are the same.
 pub same-blocks :
-  (w n : ℕ) (v u : List ℕ) → 0 < w → length v ≡ n * w → length u ≡ n * w → ((r : ℕ) → r < n → take w (drop (r * w) v) ≡ take w (drop (r * w) u)) →
-  v ≡ u
+    (w n : ℕ) (v u : List ℕ) → 0 < w → length v ≡ n * w → length u ≡ n * w → ((r : ℕ) → r < n → take w (drop (r * w) v) ≡ take w (drop (r * w) u)) →
+    v ≡ u
 same-blocks w n v u hw lv lu same = ext-getD 0 v u (lv ∙ sym lu) at
   where
     block : (xs : List ℕ) (i : ℕ) → getD xs i 0 ≡ getD (take w (drop (i / w * w) xs)) (i % w) 0

@@ -51,17 +51,17 @@ module _ (a n : ℕ) (xs ys : List ℕ) (within : a + n ≤ length xs) (long : l
 
 -- What is left when a multiple of a list was added to one row.
 pub row-added :
-  (w i n factor : ℕ) (m source row : List ℕ) → n ≡ w → i * w + w ≤ length m → length source ≡ w →
-  row ≡ addScaled factor (take n (drop (i * w) m)) source → RowAdded w i factor source m (putMid (i * w) n m row)
+    (w i n factor : ℕ) (m source row : List ℕ) → n ≡ w → i * w + w ≤ length m → length source ≡ w →
+    row ≡ addScaled factor (take n (drop (i * w) m)) source → RowAdded w i factor source m (putMid (i * w) n m row)
 row-added w i n factor m source row e within ls is =
-    record
-      { long = length-putMid (i * w) n m row (omega arith) lr
-      ; there = λ t h.
-        putMid-inside (i * w) n m row (omega arith) lr t (omega arith) ∙ ap (λ (l : List ℕ). getD l t 0) is
-        ∙ addScaled-getD factor (take n (drop (i * w) m)) source t (omega (arith, lp)) (omega arith)
-        ∙ ap (λ (x : ℕ). add x (mul factor (getD source t 0))) (part-cell w i n t m e h)
-      ; elsewhere = elsewhere
-      }
+    record {
+      long = length-putMid (i * w) n m row (omega arith) lr;
+      there = λ t h.
+          putMid-inside (i * w) n m row (omega arith) lr t (omega arith) ∙ ap (λ (l : List ℕ). getD l t 0) is
+          ∙ addScaled-getD factor (take n (drop (i * w) m)) source t (omega (arith, lp)) (omega arith)
+          ∙ ap (λ (x : ℕ). add x (mul factor (getD source t 0))) (part-cell w i n t m e h);
+      elsewhere = elsewhere;
+    }
   where
     lp : length (take n (drop (i * w) m)) ≡ n
     lp = let ld = length-drop (i * w) m in length-take-le n (drop (i * w) m) (omega arith)
@@ -71,8 +71,8 @@ row-added w i n factor m source row e within ls is =
 
     elsewhere : (j t : ℕ) → t < w → (j ≡ i → ⊥) → cell w (putMid (i * w) n m row) j t ≡ cell w m j t
     elsewhere j t h ne =
-        elim (cases-order j i)
-          [ inl same ↦ absurd (ne same)
+        elim (cases-order j i) [
+          | inl same ↦ absurd (ne same)
           | inr (inl l) ↦ let before = row-within i w j (i * w) refl l in putMid-below (i * w) n m row (omega arith) lr (j * w + t) (omega arith)
           | inr (inr l) ↦ let after = row-within j w i (j * w) refl l in putMid-above (i * w) n m row (omega arith) lr (j * w + t) (omega arith)
-          ]
+        ]

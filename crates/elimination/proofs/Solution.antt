@@ -1,5 +1,5 @@
 -- From the matrix of powers and values to the coefficients: the columns are independent, the reduced matrix has the solution, and it is the only one.
-use mathlib.Core.Path.{_≡_, refl, sym, ap, _∙_}
+use mathlib.Core.Path.{_≡_, refl, sym, ap, subst, subst₂, _∙_}
 use mathlib.Core.List.{List, [], _∷_, _++_, map, List·Memᴰ}
 use Prim.Native.Nat.{ℕ, zero, suc, _+_, _-_, _*_, _/_, _<_, _≤_}
 use native.Mathlib.Nat.{suc-mul, mul-le-mul-right, mul-comm, mul-div-cancel-left}
@@ -11,7 +11,7 @@ use Rattle.std.proofs.shelf.Elements.{all-append, all-take, all-drop}
 use Rattle.std.proofs.shelf.Counted.{length-map-counting, getD-map-counting}
 use Rattle.bytes.specs.Byte.{IsByte}
 use Rattle.elimination.specs.Polynomial.{value, Bytes, Distinct}
-use Rattle.elimination.specs.Matrix.{cell, blocks, power, powers, rowOf, matrixOf, column, combine, Vanishes, Independent, Reduced, Zeros}
+use Rattle.elimination.specs.Matrix.{cell, blocks, power, powers, rowOf, matrixOf, column, furtherColumns, combine, Vanishes, Independent, Reduced, Zeros}
 use Rattle.elimination.specs.Interpolation.{Interpolates, widthOf}
 use Rattle.elimination.proofs.Roots.{few-roots, determined, all-mem}
 use Rattle.elimination.proofs.Combine.{combine-same, value-combine, power-byte}
@@ -69,10 +69,10 @@ module _ (points values : List ℕ) (width : ℕ) (even : length values ≡ leng
   pub matrix-bytes : Bytes values → Bytes first
   matrix-bytes b =
       all-blocks IsByte (rowOf points values width) k
-        (λ i.
-          all-append IsByte (powers (getD points i 0) k) (take width (drop (i * width) values))
-            (counted-bytes (power (getD points i 0)) 0 k (power-byte (getD points i 0)))
-            (all-take IsByte width (drop (i * width) values) (all-drop IsByte (i * width) values b)))
+      (λ i.
+      all-append IsByte (powers (getD points i 0) k) (take width (drop (i * width) values))
+      (counted-bytes (power (getD points i 0)) 0 k (power-byte (getD points i 0)))
+      (all-take IsByte width (drop (i * width) values) (all-drop IsByte (i * width) values b)))
 
   -- What combines the powers of all points to 0 is a polynomial with too many roots.
   pub independent : Bytes points → Distinct points → Independent k w first
@@ -116,16 +116,31 @@ module _ (points values : List ℕ) (width : ℕ) (even : length values ≡ leng
     -- The columns past the first k of the reduced matrix are the polynomials.
     pub solution : Interpolates points values (blocks f width)
     solution =
-        record
-          { long = length-blocks f k width (λ j l. column-length j) ∙ mul-comm width k ∙ sym even
-          ; bytes = all-blocks IsByte f width column-bytes
-          ; at = λ r i hr hi. at r i (rw width-is at hr) hi ∙ ap (λ (n : ℕ). getD values (i * n + r) 0) (sym width-is)
-          }
+        record {
+          long = length-blocks f k width (λ j l. column-length j) ∙ mul-comm width k ∙ sym even;
+          bytes = all-blocks IsByte f width column-bytes;
+          at = λ r i hr hi. at r i (rw width-is at hr) hi ∙ ap (λ (n : ℕ). getD values (i * n + r) 0) (sym width-is);
+        }
+
+  -- The same of a matrix, a row's length and coefficients that are known by equations.
+  pub ready :
+      (v : ℕ) (m : List ℕ) → v ≡ w → m ≡ first → Bytes points → Bytes values → Distinct points → (length m ≡ k * v) × (Bytes m × Independent k v m)
+  ready v m ev em bp bv d =
+      let P : ℕ → List ℕ → Type 0 = λ v m. (length m ≡ k * v) × (Bytes m × Independent k v m) in
+      subst₂ P (sym ev) (sym em) (matrix-length, (matrix-bytes bv, independent bp d))
+
+  pub finished :
+      (v : ℕ) (start m out : List ℕ) → v ≡ w → start ≡ first → Reduced k v k start m → out ≡ furtherColumns k width m → Bytes points → Bytes values → 0 < k →
+      Interpolates points values out
+  finished v start m out ev es red eo bp bv some =
+      let P : ℕ → List ℕ → Type 0 = λ v start. Reduced k v k start m in
+      let Q : List ℕ → Type 0 = λ out. Interpolates points values out in
+      subst Q (sym eo) (solution m (subst₂ P ev es red) bp bv some)
 
 -- Two lists with the same values at different points are the same.
 pub only-one :
-  (points values v u : List ℕ) → 0 < length points → length values ≡ length points * widthOf points values → Bytes points → Distinct points →
-  Interpolates points values v → Interpolates points values u → u ≡ v
+    (points values v u : List ℕ) → 0 < length points → length values ≡ length points * widthOf points values → Bytes points → Distinct points →
+    Interpolates points values v → Interpolates points values u → u ≡ v
 only-one points values v u some even b d iv iu =
     same-blocks k n u v some (iu .long ∙ long) (iv .long ∙ long) same
   where
@@ -141,15 +156,15 @@ only-one points values v u some even b d iv iu =
     same : (r : ℕ) → r < n → take k (drop (r * k) u) ≡ take k (drop (r * k) v)
     same r h =
         determined (take k (drop (r * k) u)) (take k (drop (r * k) v)) points
-          (all-take IsByte k (drop (r * k) u) (all-drop IsByte (r * k) u (iu .bytes)))
-          (all-take IsByte k (drop (r * k) v) (all-drop IsByte (r * k) v (iv .bytes)))
-          b d
-          (block-length u (iu .long ∙ long) ∙ sym (block-length v (iv .long ∙ long)))
-          (let e = block-length u (iu .long ∙ long) in omega arith)
-          (λ x m.
-            let place = mem-place points x m in
-            ap (value (take k (drop (r * k) u))) (sym (place .2)) ∙ iu .at r (place .0) h (place .1) ∙ sym (iv .at r (place .0) h (place .1))
-            ∙ ap (value (take k (drop (r * k) v))) (place .2))
+        (all-take IsByte k (drop (r * k) u) (all-drop IsByte (r * k) u (iu .bytes)))
+        (all-take IsByte k (drop (r * k) v) (all-drop IsByte (r * k) v (iv .bytes)))
+        b d
+        (block-length u (iu .long ∙ long) ∙ sym (block-length v (iv .long ∙ long)))
+        (let e = block-length u (iu .long ∙ long) in omega arith)
+        (λ x m.
+        let place = mem-place points x m in
+        ap (value (take k (drop (r * k) u))) (sym (place .2)) ∙ iu .at r (place .0) h (place .1) ∙ sym (iv .at r (place .0) h (place .1))
+        ∙ ap (value (take k (drop (r * k) v))) (place .2))
       where
         block-length : (xs : List ℕ) → length xs ≡ n * k → length (take k (drop (r * k) xs)) ≡ k
         block-length xs e =

@@ -23,7 +23,13 @@ fn push_powers(m: &mut Vec<u8>, x: u8, k: usize) -> Result<(), AllocError>
 }
 
 // A row for each point: the powers of the point, and then the values there. `size` is how many bytes that makes.
-pub fn matrix(heap: Global, points: &[u8], values: &[u8], width: usize, size: usize) -> Result<Vec<u8>, AllocError>
+pub fn matrix(
+    heap: Global,
+    points: &[u8],
+    values: &[u8],
+    width: usize,
+    size: usize,
+) -> Result<Vec<u8>, AllocError>
     requires { ⌜ length (now values) ≡ length (now points) * width ⌝ }
     ensures { λ r. ⌜ made r (λ m. vec-items m ≡ matrixOf (now (points .entry)) (now (values .entry)) width) ⌝ }
 {
@@ -47,7 +53,13 @@ fn push_column(out: &mut Vec<u8>, m: &[u8], k: usize, w: usize, c: usize) -> Res
 }
 
 // The columns past the first `k`, one after the other. `size` is how many bytes that makes.
-pub fn further_columns(heap: Global, m: &[u8], k: usize, width: usize, size: usize) -> Result<Vec<u8>, AllocError>
+pub fn further_columns(
+    heap: Global,
+    m: &[u8],
+    k: usize,
+    width: usize,
+    size: usize,
+) -> Result<Vec<u8>, AllocError>
     requires { ⌜ length (now m) ≡ k * (k + width) ⌝ ∗ ⌜ k + width < 2 ^ 64 ⌝ }
     ensures { λ r. ⌜ made r (λ v. vec-items v ≡ furtherColumns k width (now (m .entry))) ⌝ }
 {

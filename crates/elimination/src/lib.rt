@@ -71,11 +71,9 @@ fn solve(heap: Global, points: &[u8], values: &[u8], width: usize) -> Result<Vec
 // Works polynomials out of their values. `values` has, point after point, the value of each polynomial there; what comes out has, polynomial after polynomial,
 // as many coefficients as there are points, that of x to the 0 first.
 pub fn interpolate(heap: Global, points: &[u8], values: &[u8]) -> Result<Vec<u8>, Unsolved>
-    ensures {
-        λ r.
+    ensures { λ r.
         ⌜ Cases r (λ v. Solved (now (points .entry)) (now (values .entry)) (vec-items v))
-          (λ e. number e ≡ reason (now (points .entry)) (now (values .entry))) ⌝
-    }
+        (λ e. number e ≡ reason (now (points .entry)) (now (values .entry))) ⌝ }
 {
     let k = points.len();
     if k == 0 {

@@ -19,8 +19,9 @@ pub loop-t-again : need.loop-t-again
 unfolding power
 loop-t-again c =
     let x : ℕ = c .args .x in
-    let t : ℕ = c .loop-t .-t in
-    ( c .in-Continue-push .ensures tt .items ∙ ap₂ (λ (l : List ℕ) (y : ℕ). l ++ y ∷ []) (c .loop-t .inv .0) (c .loop-t .inv .1)
-      ∙ counted-more (vec-items (c .args .m .now)) (power x) t
-    , c .product-next .ensures ∙ ap (mul x) (c .loop-t .inv .1) ∙ sym (ap (power x) (add-one t))
-    , c .product-next .ok)
+    let t : ℕ = c .loop-t .-t in (
+      c .in-Continue-push .ensures tt .items ∙ ap₂ (λ (l : List ℕ) (y : ℕ). l ++ y ∷ []) (c .loop-t .inv .0) (c .loop-t .inv .1)
+          ∙ counted-more (vec-items (c .args .m .now)) (power x) t,
+      c .product-next .ensures ∙ ap (mul x) (c .loop-t .inv .1) ∙ sym (ap (power x) (add-one t)),
+      c .product-next .ok,
+    )

@@ -26,13 +26,13 @@ loop-i-again c =
     let first : List ℕ = c .args .m .now in
     let m : List ℕ = c .loop-i .m in
     let P : List ℕ → Type 0 = λ l. Cleared (i + 1) w q first l in
-    elim (c .if-i-q .came)
-      [ then-i-q way ↦
-        let row : List ℕ = c .copy-row .last .row in
-        let m′ : List ℕ = way .add-row .last .m in
-        let Q : ℕ → Type 0 = λ f. RowAdded w i f row m m′ in
-        subst P (sym (way .m-is))
+    elim (c .if-i-q .came) [
+      | then-i-q way ↦
+          let row : List ℕ = c .copy-row .last .row in
+          let m′ : List ℕ = way .add-row .last .m in
+          let Q : ℕ → Type 0 = λ f. RowAdded w i f row m m′ in
+          subst P (sym (way .m-is))
           (clear-more i w q row first m m′ (c .loop-i .inv) (subst Q (way .entry-factor .ensures) (way .add-row .ensures)) (c .copy-row .ensures)
-            (omega arith) (way .if-i-q .taken))
+          (omega arith) (way .if-i-q .taken))
       | else-i-q way ↦ subst P (sym (way .m-is)) (clear-skip i w q first m (c .loop-i .inv) (way .if-i-q .left))
-      ]
+    ]

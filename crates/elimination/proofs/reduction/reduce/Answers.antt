@@ -10,17 +10,18 @@ use Rattle.elimination.proofs.reduction.reduce.Needs as need
 pub unreachable-requires : need.unreachable-requires
 unreachable-requires c κs =
     pivot-there (c .args .k) (c .args .w) (c .loop-q .q) (c .args .m .now) (c .loop-q .m) (c .loop-q .inv) (omega arith) (omega arith) (c .pre .given .1)
-      (c .in-rest .ensures tt)
+    (c .in-rest .ensures tt)
 
 pub lead-requires : need.lead-requires
 lead-requires c κs =
     let found = c .in-Some .ensures tt in
-    record
-      { places =
-        (row-within (c .args .k) (c .args .w) (c .loop-q .q) _ (omega arith) (omega arith)
-        , (row-within (c .args .k) (c .args .w) (c .in-Some .p) _ (omega arith) (omega arith), (omega arith, omega arith)))
-      ; pivot = found .2
-      }
+    record {
+      places = (
+        row-within (c .args .k) (c .args .w) (c .loop-q .q) _ (omega arith) (omega arith),
+        (row-within (c .args .k) (c .args .w) (c .in-Some .p) _ (omega arith) (omega arith), (omega arith, omega arith)),
+      );
+      pivot = found .2;
+    }
 
 pub loop-q-again : need.loop-q-again
 loop-q-again c =
@@ -37,7 +38,7 @@ loop-q-again c =
     let high : p < k = found .1 in
     let some : 1 ≤ cell w m p q = found .2 in
     cleared-reduced k w q first m′ (c .clear-column .last .m) (led-reduced k w q p first m m′ (c .loop-q .inv) (c .lead .ensures) wide low high some)
-      (c .clear-column .ensures)
-      (led-one k w q p first m m′ (c .loop-q .inv) (c .lead .ensures) wide low high some)
-      (omega arith)
-      wide
+    (c .clear-column .ensures)
+    (led-one k w q p first m m′ (c .loop-q .inv) (c .lead .ensures) wide low high some)
+    (omega arith)
+    wide
