@@ -1,6 +1,7 @@
 // Runs pieces through making, losing and working out, and prints a line for each group.
 use pieces::Piece;
 use pieces::PieceError;
+use pieces::PieceErrorDebug;
 use pieces::PieceErrorFromAlloc;
 use pieces::PieceErrorFromRefused;
 use pieces::make;
@@ -88,7 +89,7 @@ fn ways(heap: Global) -> Result<u32, PieceError> {
     Ok(good)
 }
 
-// What the error's number is, 0 where there is none.
+// The number of the error, 0 where there is none.
 fn code(result: Result<Vec<u8>, PieceError>) -> u8 {
     match result {
         Ok(_) => 0,
@@ -96,28 +97,53 @@ fn code(result: Result<Vec<u8>, PieceError>) -> u8 {
     }
 }
 
-// A piece of one drive with these bytes.
+// A piece of a drive with these bytes.
 fn found(heap: Global, drive: u8, bytes: &[u8]) -> Result<Piece, PieceError> {
     let bytes = Vec::from_slice(heap, bytes)?;
     Ok(Piece { drive, bytes })
 }
 
-fn alone(heap: Global, bytes: &[u8]) -> Result<u8, PieceError> {
-    let pieces = [found(heap, 0, bytes)?];
-    Ok(code(work_out(heap, 1, &pieces)))
+// What comes of one piece, where `need` give the object back.
+fn of_one(heap: Global, need: u8, drive: u8, bytes: &[u8]) -> Result<u8, PieceError> {
+    let mut pieces = Vec::new(heap);
+    pieces.push(found(heap, drive, bytes)?)?;
+    Ok(code(work_out(heap, need, pieces.as_slice())))
 }
 
-fn two(heap: Global, first: u8, a: &[u8], second: u8, b: &[u8]) -> Result<u8, PieceError> {
-    let pieces = [found(heap, first, a)?, found(heap, second, b)?];
-    Ok(code(work_out(heap, 2, &pieces)))
+// What comes of a piece of drive 0 and one of another drive, where 2 give the object back.
+fn of_two(heap: Global, first: &[u8], drive: u8, second: &[u8]) -> Result<u8, PieceError> {
+    let mut pieces = Vec::new(heap);
+    pieces.push(found(heap, 0, first)?)?;
+    pieces.push(found(heap, drive, second)?)?;
+    Ok(code(work_out(heap, 2, pieces.as_slice())))
 }
 
-fn refusals(rt: &LibcRuntime) -> io::Result<()> {
-    let heap = rt.alloc();
-    let none = code(work_out(heap, 0, &[]));
-    let high = code(make(heap, 32, 0, b"five"));
-    let few = code(work_out(heap, 1, &[]));
-    println!(rt, "need: {none} {high}, too few: {few}")
+// Each refusal once, by its number; the rows 0, 0; 0, 1; 7, 9 have the values 0, 1, 14 and 0, 2, 21 at the first two drives.
+fn refusals(heap: Global) -> Result<[u8; 10], PieceError> {
+    let long = sample(heap, 65_537)?;
+    Ok([
+        code(make(heap, 32, 0, b"five")),
+        of_one(heap, 2, 0, b"five")?,
+        of_two_for_one(heap)?,
+        of_one(heap, 1, 32, b"five")?,
+        code(make(heap, 2, 0, long.as_slice())),
+        of_two(heap, &[0, 1, 14], 1, &[0, 2])?,
+        of_two(heap, &[0, 1, 14], 0, &[0, 1, 14])?,
+        of_one(heap, 1, 0, &[0, 1, 0, 1])?,
+        of_one(heap, 1, 0, &[0, 0, 0, 1])?,
+        of_two(heap, &[0, 1, 14], 1, &[0, 2, 21])?,
+    ])
+}
+
+// Two pieces where one is needed.
+fn of_two_for_one(heap: Global) -> Result<u8, PieceError> {
+    let pieces = pieces_of(heap, 1, 2, b"five")?;
+    Ok(code(work_out(heap, 1, pieces.as_slice())))
+}
+
+// The object 5, 7 where 2 pieces are needed: its pieces on drives 0, 1 and 2.
+fn case_of_two(heap: Global) -> Result<Vec<Piece>, PieceError> {
+    pieces_of(heap, 2, 3, &[5, 7])
 }
 
 fn main(rt: LibcRuntime) -> io::Result<()> {
@@ -132,5 +158,19 @@ fn main(rt: LibcRuntime) -> io::Result<()> {
         Ok(good) => println!(rt, "10 of 14 drives: the object comes back in {good} of 1001 ways")?,
         Err(e) => println!(rt, "10 of 14 drives: {e:?}")?,
     }
-    refusals(&rt)
+    match refusals(heap) {
+        Ok(codes) => println!(rt, "refusals: {codes:?}")?,
+        Err(e) => println!(rt, "refusals: {e:?}")?,
+    }
+    match case_of_two(heap) {
+        Ok(pieces) => {
+            for piece in pieces.as_slice() {
+                let drive = piece.drive;
+                let bytes = piece.bytes.as_slice();
+                println!(rt, "5, 7 on drive {drive}: {bytes:?}")?;
+            }
+            Ok(())
+        }
+        Err(e) => println!(rt, "5, 7: {e:?}"),
+    }
 }
