@@ -89,11 +89,11 @@ fn ways(heap: Global) -> Result<u32, PieceError> {
     Ok(good)
 }
 
-// The number of the error, 0 where there is none.
-fn code(result: Result<Vec<u8>, PieceError>) -> u8 {
+// Is this the refusal with that number.
+fn refused(result: Result<Vec<u8>, PieceError>, code: u8) -> u32 {
     match result {
         Ok(_) => 0,
-        Err(e) => e.code(),
+        Err(e) => u32::from(e.code() == code),
     }
 }
 
@@ -103,74 +103,75 @@ fn found(heap: Global, drive: u8, bytes: &[u8]) -> Result<Piece, PieceError> {
     Ok(Piece { drive, bytes })
 }
 
-// What comes of one piece, where `need` give the object back.
-fn of_one(heap: Global, need: u8, drive: u8, bytes: &[u8]) -> Result<u8, PieceError> {
-    let mut pieces = Vec::new(heap);
-    pieces.push(found(heap, drive, bytes)?)?;
-    Ok(code(work_out(heap, need, pieces.as_slice())))
+// Is what comes of one piece, where `need` give the object back, the refusal with that number.
+fn of_one(heap: Global, need: u8, drive: u8, bytes: &[u8], code: u8) -> Result<u32, PieceError> {
+    let pieces = vec![in heap; found(heap, drive, bytes)?]?;
+    Ok(refused(work_out(heap, need, pieces.as_slice()), code))
 }
 
-// What comes of a piece of drive 0 and one of another drive, where 2 give the object back.
-fn of_two(heap: Global, first: &[u8], drive: u8, second: &[u8]) -> Result<u8, PieceError> {
-    let mut pieces = Vec::new(heap);
-    pieces.push(found(heap, 0, first)?)?;
-    pieces.push(found(heap, drive, second)?)?;
-    Ok(code(work_out(heap, 2, pieces.as_slice())))
+// Is what comes of a piece of drive 0 and one of another drive, where `need` give the object back, the refusal with that number.
+fn of_two(heap: Global, need: u8, first: &[u8], drive: u8, second: &[u8], code: u8) -> Result<u32, PieceError> {
+    let pieces = vec![in heap; found(heap, 0, first)?, found(heap, drive, second)?]?;
+    Ok(refused(work_out(heap, need, pieces.as_slice()), code))
 }
 
-// Each refusal once, by its number; the rows 0, 0; 0, 1; 7, 9 have the values 0, 1, 14 and 0, 2, 21 at the first two drives.
-fn refusals(heap: Global) -> Result<[u8; 10], PieceError> {
+// How many of the refusals of pieces of themselves come.
+fn bad_pieces(heap: Global) -> Result<u32, PieceError> {
+    let few = of_one(heap, 2, 0, b"five", 2)?;
+    let many = of_two(heap, 1, b"five", 1, b"five", 3)?;
+    let drive = of_one(heap, 1, 32, b"five", 4)?;
+    let lengths = of_two(heap, 2, b"five", 1, b"seven", 6)?;
+    let same = of_two(heap, 2, b"five", 0, b"five", 7)?;
+    Ok(few.wrapping_add(many).wrapping_add(drive).wrapping_add(lengths).wrapping_add(same))
+}
+
+// How many of the refusals of the rows behind pieces come. The rows 0, 0; 0, 1; 7, 9 have the values 0, 1, 14 and 0, 2, 21 at the first two drives.
+fn bad_rows(heap: Global) -> Result<u32, PieceError> {
+    let length = of_one(heap, 1, 0, &[0, 1, 0, 1], 8)?;
+    let count = of_one(heap, 1, 0, &[0, 0, 0, 1], 9)?;
+    let filled = of_two(heap, 2, &[0, 1, 14], 1, &[0, 2, 21], 10)?;
+    Ok(length.wrapping_add(count).wrapping_add(filled))
+}
+
+// How many of the refusals of making come.
+fn bad_making(heap: Global) -> Result<u32, PieceError> {
     let long = sample(heap, 65_537)?;
-    Ok([
-        code(make(heap, 32, 0, b"five")),
-        of_one(heap, 2, 0, b"five")?,
-        of_two_for_one(heap)?,
-        of_one(heap, 1, 32, b"five")?,
-        code(make(heap, 2, 0, long.as_slice())),
-        of_two(heap, &[0, 1, 14], 1, &[0, 2])?,
-        of_two(heap, &[0, 1, 14], 0, &[0, 1, 14])?,
-        of_one(heap, 1, 0, &[0, 1, 0, 1])?,
-        of_one(heap, 1, 0, &[0, 0, 0, 1])?,
-        of_two(heap, &[0, 1, 14], 1, &[0, 2, 21])?,
-    ])
+    let need = refused(make(heap, 32, 0, b"five"), 1);
+    let drive = refused(make(heap, 31, 32, b"five"), 4);
+    let length = refused(make(heap, 2, 0, long.as_slice()), 5);
+    Ok(need.wrapping_add(drive).wrapping_add(length))
 }
 
-// Two pieces where one is needed.
-fn of_two_for_one(heap: Global) -> Result<u8, PieceError> {
-    let pieces = pieces_of(heap, 1, 2, b"five")?;
-    Ok(code(work_out(heap, 1, pieces.as_slice())))
+// How many of the pieces of the object 5, 7, where 2 give it back, are what they should be.
+fn worked_case(heap: Global) -> Result<u32, PieceError> {
+    let wanted = [[0, 2, 2], [0, 4, 11], [0, 6, 12]];
+    let pieces = pieces_of(heap, 2, 3, &[5, 7])?;
+    let mut good = 0u32;
+    for (piece, bytes) in pieces.iter().zip(wanted.iter()) {
+        if piece.bytes.as_slice() == bytes.as_slice() {
+            good = good.wrapping_add(1);
+        }
+    }
+    Ok(good)
 }
 
-// The object 5, 7 where 2 pieces are needed: its pieces on drives 0, 1 and 2.
-fn case_of_two(heap: Global) -> Result<Vec<Piece>, PieceError> {
-    pieces_of(heap, 2, 3, &[5, 7])
+// A group's line: how many of its runs did what they should.
+fn tell(rt: &LibcRuntime, group: &str, good: Result<u32, PieceError>, of: u32) -> io::Result<()> {
+    match good {
+        Ok(good) => println!(rt, "{group}: {good} of {of}"),
+        Err(e) => println!(rt, "{group}: {e:?}"),
+    }
 }
 
 fn main(rt: LibcRuntime) -> io::Result<()> {
     let heap = rt.alloc();
-    for need in [1u8, 2, 10, 31] {
-        match lengths(heap, need) {
-            Ok(good) => println!(rt, "need {need}: {good} of 7 lengths come back, and the lost piece with each")?,
-            Err(e) => println!(rt, "need {need}: {e:?}")?,
-        }
-    }
-    match ways(heap) {
-        Ok(good) => println!(rt, "10 of 14 drives: the object comes back in {good} of 1001 ways")?,
-        Err(e) => println!(rt, "10 of 14 drives: {e:?}")?,
-    }
-    match refusals(heap) {
-        Ok(codes) => println!(rt, "refusals: {codes:?}")?,
-        Err(e) => println!(rt, "refusals: {e:?}")?,
-    }
-    match case_of_two(heap) {
-        Ok(pieces) => {
-            for piece in pieces.as_slice() {
-                let drive = piece.drive;
-                let bytes = piece.bytes.as_slice();
-                println!(rt, "5, 7 on drive {drive}: {bytes:?}")?;
-            }
-            Ok(())
-        }
-        Err(e) => println!(rt, "5, 7: {e:?}"),
-    }
+    tell(&rt, "lengths at need 1", lengths(heap, 1), 7)?;
+    tell(&rt, "lengths at need 2", lengths(heap, 2), 7)?;
+    tell(&rt, "lengths at need 10", lengths(heap, 10), 7)?;
+    tell(&rt, "lengths at need 31", lengths(heap, 31), 7)?;
+    tell(&rt, "ways to choose 10 of 14 drives", ways(heap), 1001)?;
+    tell(&rt, "refusals of pieces", bad_pieces(heap), 5)?;
+    tell(&rt, "refusals of rows", bad_rows(heap), 3)?;
+    tell(&rt, "refusals of making", bad_making(heap), 3)?;
+    tell(&rt, "pieces of 5, 7", worked_case(heap), 3)
 }
