@@ -1,1 +1,3 @@
 pub mod Byte
+pub mod Field
+pub mod Slices

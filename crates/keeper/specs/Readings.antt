@@ -73,11 +73,16 @@ contentOf C u v rs = cond (leb (u .need) (length (piecesOf v rs))) (C .workOut (
 abbrev pub clears : (Reading → Bool) → List Reading → List Act
 clears rule rs = map (λ r. clearSlot (r .drive) (r .place)) (kept-by rule rs)
 
--- How many of the drives below n are in; and all of them that are in have the version.
+-- How many of the drives below n are in.
 unfoldable pub howManyIn : ℕ → (ℕ → Bool) → ℕ
 howManyIn zero isIn = 0
 howManyIn (suc n) isIn = cond (isIn n) 1 0 + howManyIn n isIn
 
+-- The drive is out, or has the version.
+abbrev pub outOrHas : Bool → (d v : ℕ) → List Reading → Bool
+outOrHas isIn d v rs = not isIn || holder d v rs
+
+-- All drives below n that are in have the version.
 unfoldable pub allHave : ℕ → (ℕ → Bool) → ℕ → List Reading → Bool
 allHave zero isIn v rs = true
-allHave (suc n) isIn v rs = (not (isIn n) || holder n v rs) && allHave n isIn v rs
+allHave (suc n) isIn v rs = outOrHas (isIn n) n v rs && allHave n isIn v rs

@@ -77,10 +77,14 @@ beginning s c (counts v) =
 abbrev pub begin : State → List ℕ → Outcome
 begin s c = unless s (ltb longest (length c)) TooLong (beginning s c (s .known))
 
+-- Bytes go to a place of a drive, and nothing else changes.
+abbrev pub placed : State → Reply → (d k : ℕ) → List ℕ → Outcome
+placed s r d k bytes = record { reply = r; acts = writeSlot d k bytes ∷ []; state = s }
+
 -- A piece goes to its place on a drive, if there is one.
 abbrev pub writeAt : Codec → State → (d v : ℕ) → List ℕ → Reply → Option ℕ → Outcome
 writeAt C s d v c r None = refuse s NoPlace
-writeAt C s d v c r (Some k) = record { reply = r; acts = writeSlot d k (C .encode d v (C .pieceOf d c)) ∷ []; state = s }
+writeAt C s d v c r (Some k) = placed s r d k (C .encode d v (C .pieceOf d c))
 
 -- Write a piece of the new version to a drive that is in.
 abbrev pub writingTo : Codec → Setup → State → ℕ → List Reading → Knowledge → Outcome
@@ -96,13 +100,16 @@ abbrev pub counting : State → ℕ → State
 counting s w = record { known = counts w; bar = w; next = s .next; number = s .number }
 
 -- Finish, when all drives that are in have the new version and enough are in: it counts and is the bar, in the file, and then the caller is told.
-abbrev pub finishing : Setup → State → List Reading → Knowledge → Outcome
-finishing u s rs unsure = refuse s NotBeingWritten
-finishing u s rs (counts v) = refuse s NotBeingWritten
-finishing u s rs (writing v w c) =
+abbrev pub finishTo : Setup → State → List Reading → ℕ → Outcome
+finishTo u s rs w =
     unless s (not (allHave (u .drives) (u .isIn) w rs)) NotEverywhere
     (unless s (ltb (howManyIn (u .drives) (u .isIn)) (u .need)) TooFewIn
     (record { reply = isVersion w; acts = replaceFile (s .number) w ∷ []; state = counting s w }))
+
+abbrev pub finishing : Setup → State → List Reading → Knowledge → Outcome
+finishing u s rs unsure = refuse s NotBeingWritten
+finishing u s rs (counts v) = refuse s NotBeingWritten
+finishing u s rs (writing v w c) = finishTo u s rs w
 
 abbrev pub finish : Setup → State → List Reading → Outcome
 finish u s rs = finishing u s rs (s .known)
@@ -125,11 +132,13 @@ abbrev pub takeAway : State → (Reading → Bool) → List Reading → Outcome
 takeAway s rule rs = record { reply = removed (length (kept-by rule rs)); acts = clears rule rs; state = s }
 
 -- Tidy an object that counts a version, on a drive that is in: pieces of other versions go.
+abbrev pub tidyTo : Setup → State → ℕ → List Reading → ℕ → Outcome
+tidyTo u s d rs v = unless s (not (u .isIn d)) DriveOut (takeAway s (λ r. eqb (r .drive) d && not (eqb (r .version) v)) rs)
+
 abbrev pub tidying : Setup → State → ℕ → List Reading → Knowledge → Outcome
 tidying u s d rs unsure = refuse s Unsure
 tidying u s d rs (writing v w c) = refuse s BeingWritten
-tidying u s d rs (counts v) =
-    unless s (not (u .isIn d)) DriveOut (takeAway s (λ r. eqb (r .drive) d && not (eqb (r .version) v)) rs)
+tidying u s d rs (counts v) = tidyTo u s d rs v
 
 abbrev pub tidy : Setup → State → ℕ → List Reading → Outcome
 tidy u s d rs = unless s (leb (u .drives) d) NoSuch (tidying u s d rs (s .known))
@@ -151,13 +160,16 @@ abbrev pub nothingToMend : State → Option ℕ → Outcome
 nothingToMend s None = refuse s NoPlace
 nothingToMend s (Some k) = refuse s CountsNone
 
-abbrev pub mending : Codec → Setup → State → ℕ → List Reading → Knowledge → Outcome
-mending C u s d rs unsure = refuse s Unsure
-mending C u s d rs (writing v w c) = refuse s BeingWritten
-mending C u s d rs (counts v) =
+abbrev pub mendTo : Codec → Setup → State → ℕ → List Reading → ℕ → Outcome
+mendTo C u s d rs v =
     unless s (not (u .isIn d)) DriveOut
     (cond (eqb v 0) (nothingToMend s (placeFor places d v rs))
     (cond (holder d v rs) (tell s (mended 0)) (remake C s d v (placeFor places d v rs) (contentOf C u v rs))))
+
+abbrev pub mending : Codec → Setup → State → ℕ → List Reading → Knowledge → Outcome
+mending C u s d rs unsure = refuse s Unsure
+mending C u s d rs (writing v w c) = refuse s BeingWritten
+mending C u s d rs (counts v) = mendTo C u s d rs v
 
 abbrev pub mend : Codec → Setup → State → ℕ → List Reading → Outcome
 mend C u s d rs = unless s (leb (u .drives) d) NoSuch (mending C u s d rs (s .known))

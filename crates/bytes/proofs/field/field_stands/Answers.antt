@@ -1,0 +1,19 @@
+use Rattle.bytes.specs.Byte.{inv}
+use Rattle.bytes.proofs.Laws.{add-comm, add-assoc, add-self, add-byte, add-zero, mul-byte, mul-comm, mul-assoc, mul-add, mul-one, mul-inv, inv-byte}
+use Rattle.bytes.proofs.field.field_stands.Needs as need
+
+pub returns : need.returns
+returns c =
+    record {
+      add-closed = λ a b ha hb. add-byte a b;
+      mul-closed = λ a b ha hb. mul-byte a b;
+      add-commutes = λ a b ha hb. add-comm a b;
+      mul-commutes = mul-comm;
+      add-associates = λ a b c ha hb hc. add-assoc a b c;
+      mul-associates = mul-assoc;
+      distributes = λ a b c ha hb hc. mul-add a b c;
+      add-neutral = add-zero;
+      mul-neutral = mul-one;
+      negative = λ a ha. add-self a;
+      inverse = λ a ha some. (inv a, inv-byte a, mul-inv a ha some)
+    }
