@@ -1,0 +1,4 @@
+pub mod Bridge
+pub mod Choose
+pub mod Scan
+pub mod Search

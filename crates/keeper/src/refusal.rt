@@ -1,0 +1,31 @@
+// Why a step is refused.
+
+// Nothing has changed where a step is refused. Cases that share a number are told by the same number.
+#[derive(Clone, Copy, PartialEq, Eq, Debug)]
+pub enum Refusal {
+    // no such object or drive
+    NoSuch,
+    // the object has more bytes than an object may have
+    TooLong,
+    Unsure,
+    BeingWritten,
+    NotBeingWritten,
+    NotUnsure,
+    DriveOut,
+    // as many other versions of the object are on the drive as it has places
+    NoPlace,
+    // not all drives that are in have the new version
+    NotEverywhere,
+    // fewer drives are in than are needed
+    TooFewIn,
+    // fewer pieces of the version are in than are needed, or they don't work out to an object
+    TooFewPieces,
+    // the object counts no version
+    CountsNone,
+    // the keeper's file has another length or a wrong sum
+    BadFile,
+    // all version numbers are used up
+    NoMoreVersions,
+    // want of memory
+    NoMemory,
+}
