@@ -9,8 +9,8 @@ use Rattle.slots.specs.Layout.{recordOf}
 use Rattle.slots.specs.Slot.{fits, readSlot, cleared}
 use Rattle.keeper.specs.Readings.{anyOf, freePlace, ownPlace, contentOf, howManyIn, allHave}
 use Rattle.recovery.specs.Disk.{readPlaces, readDrives, performAll, hasFrom, howMany}
-use Rattle.cases.specs.Store.{afterAll}
+use Rattle.recovery.specs.Example.{play}
 
 unfoldable pub computing : Unit {0}
-unfolding mul times twice add plus value framed values rowsFor pieceOf adler sums recordOf fits readSlot cleared anyOf freePlace ownPlace contentOf howManyIn allHave readPlaces readDrives performAll hasFrom howMany afterAll
+unfolding mul times twice add plus value framed values rowsFor pieceOf adler sums recordOf fits readSlot cleared anyOf freePlace ownPlace contentOf howManyIn allHave readPlaces readDrives performAll hasFrom howMany play
 computing = tt

@@ -13,7 +13,8 @@ use Rattle.keeper.specs.Object.{has, mended}
 use Rattle.recovery.specs.Disk.{OnceBegun, howMany}
 use Rattle.recovery.specs.World.{World, read, mend, weak}
 use Rattle.recovery.specs.Events.{Event, step, goesOut}
-use Rattle.cases.specs.Store.{format, site, zeros, atFirst, afterAll}
+use Rattle.recovery.specs.Example.{play}
+use Rattle.cases.specs.Store.{format, site, zeros, atFirst}
 use Rattle.cases.specs.Table.{happens, mayNot, answer, weakDrives, Holds, object, putOnTwo, backEmpty, put, oneByteChanged}
 use Rattle.cases.proofs.Computing.{computing}
 use Rattle.cases.proofs.Working.{object-may, each-byte, two, worked}
@@ -28,7 +29,7 @@ put-on-two-happens f w =
 pub put-on-two-reads : Holds (answer putOnTwo read (has 1 object))
 unfolding computing
 put-on-two-reads f w =
-    reads (afterAll (site f) putOnTwo atFirst .state) 1 object (f (two 0 1 object)) (worked f w 0 1 tt tt object object-may)
+    reads (play (site f) putOnTwo atFirst .state) 1 object (f (two 0 1 object)) (worked f w 0 1 tt tt object object-may)
 
 pub back-empty-happens : Holds (happens backEmpty)
 unfolding computing Allowed
@@ -43,15 +44,15 @@ two-are-too-many f w bearable = le→leb 4 3 bearable
 pub mending-told : Holds (answer backEmpty (mend 2) (mended 1))
 unfolding computing
 mending-told f w =
-    ap (λ o. toldOfMending (site f) 2 1 0 (afterAll (site f) backEmpty atFirst) o) (worked f w 0 1 tt tt object object-may)
+    ap (λ o. toldOfMending (site f) 2 1 0 (play (site f) backEmpty atFirst) o) (worked f w 0 1 tt tt object object-may)
 
 mended-world :
     (f : WorkOut) → WorksOut 2 f →
-    afterAll (site f) (backEmpty ++ (step (mend 2) ∷ [])) atFirst ≡ mendedOn (site f) 2 1 0 (afterAll (site f) backEmpty atFirst) (Some object)
+    play (site f) (backEmpty ++ (step (mend 2) ∷ [])) atFirst ≡ mendedOn (site f) 2 1 0 (play (site f) backEmpty atFirst) (Some object)
 unfolding computing
 mended-world f w =
     after-++ (site f) backEmpty (step (mend 2) ∷ []) atFirst
-    ∙ ap (λ o. mendedOn (site f) 2 1 0 (afterAll (site f) backEmpty atFirst) o) (worked f w 0 1 tt tt object object-may)
+    ∙ ap (λ o. mendedOn (site f) 2 1 0 (play (site f) backEmpty atFirst) o) (worked f w 0 1 tt tt object object-may)
 
 pub mended-none-weak : Holds (weakDrives (backEmpty ++ (step (mend 2) ∷ [])) 0)
 unfolding computing
@@ -62,10 +63,10 @@ unfolding computing Allowed
 one-byte-happens f w =
     goes-on (site f) oneByteChanged atFirst (starts f)
     (each-byte object (object-may .bytes), (tt, (tt, (tt, (tt,
-    ((each-slot (λ k bytes. OnceBegun (afterAll (site f) put atFirst .disk .once 1 k) (format .decode 1 bytes))
+    ((each-slot (λ k bytes. OnceBegun (play (site f) put atFirst .disk .once 1 k) (format .decode 1 bytes))
     (set (recordOf 0 1 1 (pieceOf 2 1 object)) 17 10) zeros tt tt (λ k. tt), lit≤ tt), tt))))))
 
 pub one-byte-reads : Holds (answer oneByteChanged read (has 1 object))
 unfolding computing
 one-byte-reads f w =
-    reads (afterAll (site f) oneByteChanged atFirst .state) 1 object (f (two 0 2 object)) (worked f w 0 2 tt tt object object-may)
+    reads (play (site f) oneByteChanged atFirst .state) 1 object (f (two 0 2 object)) (worked f w 0 2 tt tt object object-may)

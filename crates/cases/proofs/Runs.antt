@@ -10,10 +10,11 @@ use Rattle.keeper.specs.Real.{WorkOut}
 use Rattle.recovery.specs.Disk.{Site, howMany}
 use Rattle.recovery.specs.World.{World}
 use Rattle.recovery.specs.Events.{Event, May, after, Run, first, then}
-use Rattle.cases.specs.Store.{site, zeros, slotsWith, atFirst, afterAll}
+use Rattle.recovery.specs.Example.{play}
+use Rattle.cases.specs.Store.{site, zeros, slotsWith, atFirst}
 
-pub after-++ : (S : Site) (es more : List Event) (w : World) → afterAll S (es ++ more) w ≡ afterAll S more (afterAll S es w)
-unfolding afterAll
+pub after-++ : (S : Site) (es more : List Event) (w : World) → play S (es ++ more) w ≡ play S more (play S es w)
+unfolding play
 after-++ S [] more w = refl
 after-++ S (e ∷ es) more w = after-++ S es more (after S e w)
 
@@ -22,8 +23,8 @@ unfoldable pub Allowed : Site → List Event → World → Type 0
 Allowed S [] w = Unit {0}
 Allowed S (e ∷ es) w = May S e w × Allowed S es (after S e w)
 
-pub goes-on : (S : Site) (es : List Event) (w : World) → Run S w → Allowed S es w → Run S (afterAll S es w)
-unfolding afterAll Allowed
+pub goes-on : (S : Site) (es : List Event) (w : World) → Run S w → Allowed S es w → Run S (play S es w)
+unfolding play Allowed
 goes-on S [] w run may = run
 goes-on S (e ∷ es) w run may = goes-on S es (after S e w) (then run e (may .0)) (may .1)
 

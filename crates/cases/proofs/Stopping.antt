@@ -14,7 +14,8 @@ use Rattle.keeper.specs.Steps.{Found, taking}
 use Rattle.recovery.specs.Disk.{OnceBegun, readingsOf}
 use Rattle.recovery.specs.World.{World, read, settle, outcomeOf}
 use Rattle.recovery.specs.Events.{Event, step, Run}
-use Rattle.cases.specs.Store.{format, site, zeros, atFirst, afterAll}
+use Rattle.recovery.specs.Example.{play}
+use Rattle.cases.specs.Store.{format, site, zeros, atFirst}
 use Rattle.cases.specs.Table.{happens, answer, versions, versionsIn, Holds, object, other, toAll, stoppedAtOne, stoppedAtTwo, settled, atOneLost, lateReturn, onwards}
 use Rattle.cases.proofs.Computing.{computing}
 use Rattle.cases.proofs.Working.{object-may, other-may, each-byte, two, worked}
@@ -23,15 +24,15 @@ use Rattle.cases.proofs.Deciding.{reads, follows, foundIn, settledOn, toldOfSe
 
 -- The world after events.
 abbrev at : WorkOut → List Event → World
-at f events = afterAll (site f) events atFirst
+at f events = play (site f) events atFirst
 
 -- Settling after events, and going on from there.
 settles :
-    (f : WorkOut) (events more : List Event) (z : Found) → afterAll (site f) (step settle ∷ []) (at f events) ≡ settledOn (site f) (at f events) z →
-    at f (settled events ++ more) ≡ afterAll (site f) more (settledOn (site f) (at f events) z)
+    (f : WorkOut) (events more : List Event) (z : Found) → play (site f) (step settle ∷ []) (at f events) ≡ settledOn (site f) (at f events) z →
+    at f (settled events ++ more) ≡ play (site f) more (settledOn (site f) (at f events) z)
 settles f events more z e =
     after-++ (site f) (settled events) more atFirst
-    ∙ ap (afterAll (site f) more) (after-++ (site f) events (step settle ∷ []) atFirst ∙ e)
+    ∙ ap (play (site f) more) (after-++ (site f) events (step settle ∷ []) atFirst ∙ e)
 
 -- One drive has version 2: version 1 is found.
 one-found : (f : WorkOut) → WorksOut 2 f → foundIn (site f) (at f stoppedAtOne) ≡ Some (1, object)
@@ -43,7 +44,7 @@ one-found f w =
 
 one-settled :
     (f : WorkOut) → WorksOut 2 f → (more : List Event) →
-    at f (settled stoppedAtOne ++ more) ≡ afterAll (site f) more (settledOn (site f) (at f stoppedAtOne) (Some (1, object)))
+    at f (settled stoppedAtOne ++ more) ≡ play (site f) more (settledOn (site f) (at f stoppedAtOne) (Some (1, object)))
 unfolding computing
 one-settled f w more =
     settles f stoppedAtOne more (Some (1, object)) (ap (λ z. settledOn (site f) (at f stoppedAtOne) z) (one-found f w))
@@ -66,7 +67,7 @@ pub at-one-reads : Holds (answer (settled stoppedAtOne ++ toAll) read (has 1025 
 unfolding computing
 at-one-reads f w =
     ap (λ (x : World). outcomeOf (site f) x read .reply) (one-settled f w toAll)
-    ∙ reads (afterAll (site f) toAll (settledOn (site f) (at f stoppedAtOne) (Some (1, object))) .state) 1025 object (f (two 0 1 object))
+    ∙ reads (play (site f) toAll (settledOn (site f) (at f stoppedAtOne) (Some (1, object))) .state) 1025 object (f (two 0 1 object))
     (worked f w 0 1 tt tt object object-may)
 
 -- Two drives have version 2: it is found.
@@ -94,7 +95,7 @@ unfolding computing
 at-two-reads f w =
     ap (λ (x : World). outcomeOf (site f) x read .reply)
     (settles f stoppedAtTwo toAll (Some (2, other)) (ap (λ z. settledOn (site f) (at f stoppedAtTwo) z) (two-found f w)))
-    ∙ reads (afterAll (site f) toAll (settledOn (site f) (at f stoppedAtTwo) (Some (2, other))) .state) 1025 other (f (two 0 1 other))
+    ∙ reads (play (site f) toAll (settledOn (site f) (at f stoppedAtTwo) (Some (2, other))) .state) 1025 other (f (two 0 1 other))
     (worked f w 0 1 tt tt other other-may)
 
 -- The drive with version 2 is out while version 1 is settled on, and comes back.
@@ -107,7 +108,7 @@ lost-found f w =
 
 -- The world when the drive is back.
 abbrev returned : WorkOut → World
-returned f = afterAll (site f) onwards (settledOn (site f) (at f atOneLost) (Some (1, object)))
+returned f = play (site f) onwards (settledOn (site f) (at f atOneLost) (Some (1, object)))
 
 late-world : (f : WorkOut) → WorksOut 2 f → at f lateReturn ≡ returned f
 unfolding computing
@@ -147,5 +148,5 @@ late-happens f w =
     subst (Run (site f)) (sym (late-world f w))
     (goes-on (site f) onwards (settledOn (site f) (at f atOneLost) (Some (1, object))) (lost-run f w)
     (tt, (tt, (tt,
-    ((each-slot (λ k bytes. OnceBegun (afterAll (site f) (take 3 onwards) (settledOn (site f) (at f atOneLost) (Some (1, object))) .disk .once 0 k) (format .decode 0 bytes)) (recordOf 0 0 1 (pieceOf 2 0 object))
+    ((each-slot (λ k bytes. OnceBegun (play (site f) (take 3 onwards) (settledOn (site f) (at f atOneLost) (Some (1, object))) .disk .once 0 k) (format .decode 0 bytes)) (recordOf 0 0 1 (pieceOf 2 0 object))
     (recordOf 0 0 2 (pieceOf 2 0 other)) (List·Memᴰ·head refl) (List·Memᴰ·head refl) (λ k. tt), lit≤ tt), (tt, tt))))))

@@ -10,7 +10,7 @@ use Rattle.slots.specs.Slot as slots
 use Rattle.keeper.specs.Real.{WorkOut, codecOf}
 use Rattle.recovery.specs.Disk.{Slot, empty, holds, Format, Site}
 use Rattle.recovery.specs.World.{World}
-use Rattle.recovery.specs.Events.{Event, May, after, firstState}
+use Rattle.recovery.specs.Events.{firstState}
 
 -- What a slot reads as.
 abbrev pub shown : slots.Slot → Slot
@@ -44,8 +44,3 @@ atFirst =
         disk = record { bytes = λ d k. zeros; once = λ d k. []; out = λ d. false; number = 1; bar = 0 };
         state = firstState;
         past = record { content = λ v. None; begun = []; last = 0 } }
-
--- The world after so many events, one after the other.
-unfoldable pub afterAll : Site → List Event → World → World
-afterAll S [] w = w
-afterAll S (e ∷ es) w = afterAll S es (after S e w)

@@ -13,7 +13,8 @@ use Rattle.keeper.specs.Real.{WorkOut, WorksOut}
 use Rattle.recovery.specs.Disk.{readingsOf, howMany}
 use Rattle.recovery.specs.World.{World, Call, begin, write, finish, read, mend, settle, outcomeOf, weak}
 use Rattle.recovery.specs.Events.{Event, step, stop, goesOut, returns, May, Run}
-use Rattle.cases.specs.Store.{site, zeros, slotsWith, atFirst, afterAll}
+use Rattle.recovery.specs.Example.{play}
+use Rattle.cases.specs.Store.{site, zeros, slotsWith, atFirst}
 
 -- What a row of the table is about. There are three drives, and two pieces give an object back; events are those of an object from the first start on.
 pub data Row : Type 0 where
@@ -43,7 +44,7 @@ versionsIn rs = map (λ r. (r .drive, r .version)) rs
 
 -- What is claimed of the world after events, whichever function works objects out of pieces.
 abbrev pub After : List Event → (WorkOut → World → Type 0) → Type 0
-After events claim = (f : WorkOut) → WorksOut 2 f → claim f (afterAll (site f) events atFirst)
+After events claim = (f : WorkOut) → WorksOut 2 f → claim f (play (site f) events atFirst)
 
 -- What a row claims.
 abbrev pub Holds : Row → Type 0
