@@ -140,12 +140,12 @@ unique need ps a b one fa fb =
     at-point x m =
         let q = mem-map (λ d. d + 1) (onDrives ps) m in
         subst (λ y. values need (rowsFor need (length a)) y (framed need a) ≡ values need (rowsFor need (length a)) y (framed need b)) (sym (q .2))
-            (same (q .1) ∙ ap (λ k. values need k (q .0 + 1) (framed need b)) (sym rows))
+        (same (q .1) ∙ ap (λ k. values need k (q .0 + 1) (framed need b)) (sym rows))
 
     frames : framed need a ≡ framed need b
     frames =
         rows-determined need (rowsFor need (length a)) (points (onDrives ps)) (framed need a) (framed need b) (framed-bytes need a (fa .bytes)) (framed-bytes need b (fb .bytes)) (points-bytes (onDrives ps) (fa .drives)) (distinct-up (onDrives ps) (fa .distinct))
-            (omega (arith, length-map (onDrives ps) (λ d. d + 1), many)) (length-framed need a one) (length-framed need b one ∙ ap (λ k. k * need) (sym rows)) at-point
+        (omega (arith, length-map (onDrives ps) (λ d. d + 1), many)) (length-framed need a one) (length-framed need b one ∙ ap (λ k. k * need) (sym rows)) at-point
 
 chosen : (need : ℕ) (ps : List (ℕ × List ℕ)) → Dec (Short MAX (Fits need ps)) → Option (List ℕ)
 chosen need ps (yes z) = Some (z .list)

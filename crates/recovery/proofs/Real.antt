@@ -62,20 +62,24 @@ module _ (need o : ℕ) (f : WorkOut) (c : List ℕ) where
 real-laws : RealLaws
 real-laws n need o f k w =
     record {
-        some = k .some; enough = k .enough;
-        written = λ d v c old l small fits. ap readAs (reads-written o d v (pieceOf need d c) (drop (length (recordOf o d v (pieceOf need d c))) old) (omega arith) (piece-short need d c (k .some) (fits .short)));
-        wiped = λ d old l. ap readAs (cleared-reads-empty o d old);
-        works = works′ }
+      some = k .some;
+      enough = k .enough;
+      written = λ d v c old l small fits. ap readAs (reads-written o d v (pieceOf need d c) (drop (length (recordOf o d v (pieceOf need d c))) old) (omega arith) (piece-short need d c (k .some) (fits .short)));
+      wiped = λ d old l. ap readAs (cleared-reads-empty o d old);
+      works = works′;
+    }
   where
     works′ : (c : List ℕ) (ds : List ℕ) → Content c → Distinct ds → ((d : ℕ) → List·Memᴰ d ds → d < n) → length ds ≡ need → f (piecesOn (codecOf need o f) c ds) ≡ Some c
     works′ c ds fits apart below many =
         w .works (piecesOn (codecOf need o f) c ds) c
-            (record {
-                many = length-map ds (λ d. (d, pieceOf need d c)) ∙ many;
-                drives = subst (All (λ d. d ≤ LAST)) (sym (on-drives need o f c ds)) (all-from ds (λ d m. let z = below d m in let q = k .most in omega arith));
-                distinct = subst Apart (sym (on-drives need o f c ds)) (apart-from ds apart);
-                bytes = all-from c (fits .bytes); short = fits .short;
-                pieces = parts-are need o f c ds ∙ ap (map (λ d. pieceOf need d c)) (sym (on-drives need o f c ds)) })
+        (record {
+          many = length-map ds (λ d. (d, pieceOf need d c)) ∙ many;
+          drives = subst (All (λ d. d ≤ LAST)) (sym (on-drives need o f c ds)) (all-from ds (λ d m. let z = below d m in let q = k .most in omega arith));
+          distinct = subst Apart (sym (on-drives need o f c ds)) (apart-from ds apart);
+          bytes = all-from c (fits .bytes);
+          short = fits .short;
+          pieces = parts-are need o f c ds ∙ ap (map (λ d. pieceOf need d c)) (sym (on-drives need o f c ds));
+        })
 
 real-safety : RealSafety
 real-safety n need f k w s r o l = store-safety (realDepot n need f) (λ p m. real-laws n need p f k w) s r o l

@@ -118,7 +118,7 @@ module _ (S : Site) (L : Laws S) (w : World) (I : Inv S w) where
       go (writing o n x) = λ t. absurd (refusal-number t)
       go (counts x) =
           unless-elim (Q (counts x)) (w .state) (leb Steps.lastNumber (w .state .next)) NoMoreVersions (record { reply = numbered (w .state .next); acts = Steps.reserve (w .state); state = Steps.writingOn (w .state) x c })
-              (λ t. absurd (refusal-number t)) (λ _ t. let e : w .state .next ≡ v = cc in (sym e, subst (λ y. using′ (w .state .next) c (w .past .content) y ≡ Some c) e (using-new (w .state .next) c (w .past .content))))
+          (λ t. absurd (refusal-number t)) (λ _ t. let e : w .state .next ≡ v = cc in (sym e, subst (λ y. using′ (w .state .next) c (w .past .content) y ≡ Some c) e (using-new (w .state .next) c (w .past .content))))
 
   finishes : (v : ℕ) → outcomeOf S w World.finish .reply ≡ numbered v → stepped S World.finish w .past .last ≡ v
   finishes v = go (w .state .known)
@@ -131,8 +131,8 @@ module _ (S : Site) (L : Laws S) (w : World) (I : Inv S w) where
       go (counts x) = λ t. absurd (refusal-number t)
       go (writing o n x) =
           unless-elim (Q (writing o n x)) (w .state) (not (allHave (S .drives) (λ d. not (w .disk .out d)) n (readingsOf S (w .disk)))) NotEverywhere
-              (Steps.unless (w .state) (ltb (howManyIn (S .drives) (λ d. not (w .disk .out d))) (S .need)) TooFewIn done′) (λ t. absurd (refusal-number t))
-              (λ _. unless-elim (Q (writing o n x)) (w .state) (ltb (howManyIn (S .drives) (λ d. not (w .disk .out d))) (S .need)) TooFewIn done′ (λ t. absurd (refusal-number t)) (λ _ t. cc))
+          (Steps.unless (w .state) (ltb (howManyIn (S .drives) (λ d. not (w .disk .out d))) (S .need)) TooFewIn done′) (λ t. absurd (refusal-number t))
+          (λ _. unless-elim (Q (writing o n x)) (w .state) (ltb (howManyIn (S .drives) (λ d. not (w .disk .out d))) (S .need)) TooFewIn done′ (λ t. absurd (refusal-number t)) (λ _ t. cc))
         where
           done′ : Outcome
           done′ = record { reply = numbered n; acts = replaceFile (w .state .number) n ∷ []; state = Steps.counting (w .state) n }
