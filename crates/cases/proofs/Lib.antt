@@ -1,3 +1,4 @@
+mod Rows
 mod Computing
 mod Working
 mod Runs

@@ -14,7 +14,7 @@ use Rattle.recovery.specs.Disk.{OnceBegun, howMany}
 use Rattle.recovery.specs.World.{World, read, mend, weak}
 use Rattle.recovery.specs.Events.{Event, step, goesOut}
 use Rattle.recovery.specs.Example.{play}
-use Rattle.cases.specs.Store.{format, site, zeros, atFirst}
+use Rattle.cases.specs.Store.{site, zeros, atFirst}
 use Rattle.cases.specs.Table.{happens, mayNot, answer, weakDrives, Holds, object, putOnTwo, backEmpty, put, oneByteChanged}
 use Rattle.cases.proofs.Computing.{computing}
 use Rattle.cases.proofs.Working.{object-may, each-byte, two, worked}
@@ -61,10 +61,29 @@ mended-none-weak f w = ap (λ (x : World). howMany 3 (weak (site f) (x .disk) (x
 pub one-byte-happens : Holds (happens oneByteChanged)
 unfolding computing Allowed
 one-byte-happens f w =
-    goes-on (site f) oneByteChanged atFirst (starts f)
-    (each-byte object (object-may .bytes), (tt, (tt, (tt, (tt,
-    ((each-slot (λ k bytes. OnceBegun (play (site f) put atFirst .disk .once 1 k) (format .decode 1 bytes))
-    (set (recordOf 0 1 1 (pieceOf 2 1 object)) 17 10) zeros tt tt (λ k. tt), lit≤ tt), tt))))))
+    goes-on (site f) oneByteChanged atFirst (starts f) (
+      each-byte object (object-may .bytes),
+      (
+        tt,
+        (
+          tt,
+          (
+            tt,
+            (
+              tt,
+              (
+                (
+                  each-slot (λ k bytes. OnceBegun (play (site f) put atFirst .disk .once 1 k) (site f .format .decode 1 bytes))
+                      (set (recordOf 0 1 1 (pieceOf 2 1 object)) 17 10) zeros tt tt (λ k. tt),
+                  lit≤ tt,
+                ),
+                tt,
+              ),
+            ),
+          ),
+        ),
+      ),
+    )
 
 pub one-byte-reads : Holds (answer oneByteChanged read (has 1 object))
 unfolding computing

@@ -34,8 +34,16 @@ unfolding fits readSlot howMany
 starts f =
     first
     (record {
-        state = refl; number = refl; bar = refl; nothing = λ d k. refl; unwritten = λ d k. refl; unused = λ v. refl; unbegun = refl;
-        unfinished = refl; bearable = lit≤ tt })
+      state = refl;
+      number = refl;
+      bar = refl;
+      nothing = λ d k. refl;
+      unwritten = λ d k. refl;
+      unused = λ v. refl;
+      unbegun = refl;
+      unfinished = refl;
+      bearable = lit≤ tt;
+    })
 
 -- What holds of both ways of a choice.
 either-way : {X : Type 0} (P : X → Type 0) (b : Bool) (x y : X) → (T b → P x) → P y → P (cond b x y)

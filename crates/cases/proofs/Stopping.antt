@@ -15,7 +15,7 @@ use Rattle.recovery.specs.Disk.{OnceBegun, readingsOf}
 use Rattle.recovery.specs.World.{World, read, settle, outcomeOf}
 use Rattle.recovery.specs.Events.{Event, step, Run}
 use Rattle.recovery.specs.Example.{play}
-use Rattle.cases.specs.Store.{format, site, zeros, atFirst}
+use Rattle.cases.specs.Store.{site, zeros, atFirst}
 use Rattle.cases.specs.Table.{happens, answer, versions, versionsIn, Holds, object, other, toAll, stoppedAtOne, stoppedAtTwo, settled, atOneLost, lateReturn, onwards}
 use Rattle.cases.proofs.Computing.{computing}
 use Rattle.cases.proofs.Working.{object-may, other-may, each-byte, two, worked}
@@ -28,11 +28,12 @@ at f events = play (site f) events atFirst
 
 -- Settling after events, and going on from there.
 settles :
-    (f : WorkOut) (events more : List Event) (z : Found) → play (site f) (step settle ∷ []) (at f events) ≡ settledOn (site f) (at f events) z →
-    at f (settled events ++ more) ≡ play (site f) more (settledOn (site f) (at f events) z)
-settles f events more z e =
-    after-++ (site f) (settled events) more atFirst
-    ∙ ap (play (site f) more) (after-++ (site f) events (step settle ∷ []) atFirst ∙ e)
+    (f : WorkOut) (events : List Event) (z : Found) → play (site f) (step settle ∷ []) (at f events) ≡ settledOn (site f) (at f events) z →
+    at f (settled events) ≡ settledOn (site f) (at f events) z
+settles f events z e = after-++ (site f) events (step settle ∷ []) atFirst ∙ e
+
+goes-on-from : (f : WorkOut) (events more : List Event) (w : World) → at f events ≡ w → at f (events ++ more) ≡ play (site f) more w
+goes-on-from f events more w e = after-++ (site f) events more atFirst ∙ ap (play (site f) more) e
 
 -- One drive has version 2: version 1 is found.
 one-found : (f : WorkOut) → WorksOut 2 f → foundIn (site f) (at f stoppedAtOne) ≡ Some (1, object)
@@ -42,12 +43,9 @@ one-found f w =
     follows (site f) (at f stoppedAtOne) None (readingsOf (site f) (at f stoppedAtOne .disk)) (one ∷ one ∷ one ∷ one ∷ [])
     (ap (λ o. taking 1 None o) (worked f w 0 1 tt tt object object-may), (refl, (refl, (refl, tt))))
 
-one-settled :
-    (f : WorkOut) → WorksOut 2 f → (more : List Event) →
-    at f (settled stoppedAtOne ++ more) ≡ play (site f) more (settledOn (site f) (at f stoppedAtOne) (Some (1, object)))
+one-settled : (f : WorkOut) → WorksOut 2 f → at f (settled stoppedAtOne) ≡ settledOn (site f) (at f stoppedAtOne) (Some (1, object))
 unfolding computing
-one-settled f w more =
-    settles f stoppedAtOne more (Some (1, object)) (ap (λ z. settledOn (site f) (at f stoppedAtOne) z) (one-found f w))
+one-settled f w = settles f stoppedAtOne (Some (1, object)) (ap (λ z. settledOn (site f) (at f stoppedAtOne) z) (one-found f w))
 
 pub at-one-happens : Holds (happens stoppedAtOne)
 unfolding computing Allowed
@@ -59,14 +57,14 @@ pub at-one-told : Holds (answer stoppedAtOne settle (found 1 1025))
 unfolding computing
 at-one-told f w = ap (λ z. toldOfSettling (site f) (at f stoppedAtOne) z) (one-found f w)
 
-pub at-one-taken : Holds (versions (settled stoppedAtOne ++ []) ((0, 1) ∷ (1, 1) ∷ (2, 1) ∷ []))
+pub at-one-taken : Holds (versions (settled stoppedAtOne) ((0, 1) ∷ (1, 1) ∷ (2, 1) ∷ []))
 unfolding computing
-at-one-taken f w = ap (λ (x : World). versionsIn (readingsOf (site f) (x .disk))) (one-settled f w [])
+at-one-taken f w = ap (λ (x : World). versionsIn (readingsOf (site f) (x .disk))) (one-settled f w)
 
 pub at-one-reads : Holds (answer (settled stoppedAtOne ++ toAll) read (has 1025 object))
 unfolding computing
 at-one-reads f w =
-    ap (λ (x : World). outcomeOf (site f) x read .reply) (one-settled f w toAll)
+    ap (λ (x : World). outcomeOf (site f) x read .reply) (goes-on-from f (settled stoppedAtOne) toAll (settledOn (site f) (at f stoppedAtOne) (Some (1, object))) (one-settled f w))
     ∙ reads (play (site f) toAll (settledOn (site f) (at f stoppedAtOne) (Some (1, object))) .state) 1025 object (f (two 0 1 object))
     (worked f w 0 1 tt tt object object-may)
 
@@ -76,9 +74,14 @@ unfolding computing
 two-found f w =
     let one : Found = Some (1, object) in
     let new : Found = Some (2, other) in
-    follows (site f) (at f stoppedAtTwo) None (readingsOf (site f) (at f stoppedAtTwo .disk)) (one ∷ new ∷ new ∷ new ∷ new ∷ [])
-    (ap (λ o. taking 1 None o) (worked f w 0 1 tt tt object object-may),
-    (ap (λ o. taking 2 one o) (worked f w 0 1 tt tt other other-may), (refl, (refl, (refl, tt)))))
+    follows (site f) (at f stoppedAtTwo) None (readingsOf (site f) (at f stoppedAtTwo .disk)) (one ∷ new ∷ new ∷ new ∷ new ∷ []) (
+      ap (λ o. taking 1 None o) (worked f w 0 1 tt tt object object-may),
+      (ap (λ o. taking 2 one o) (worked f w 0 1 tt tt other other-may), (refl, (refl, (refl, tt)))),
+    )
+
+two-settled : (f : WorkOut) → WorksOut 2 f → at f (settled stoppedAtTwo) ≡ settledOn (site f) (at f stoppedAtTwo) (Some (2, other))
+unfolding computing
+two-settled f w = settles f stoppedAtTwo (Some (2, other)) (ap (λ z. settledOn (site f) (at f stoppedAtTwo) z) (two-found f w))
 
 pub at-two-happens : Holds (happens stoppedAtTwo)
 unfolding computing Allowed
@@ -94,7 +97,7 @@ pub at-two-reads : Holds (answer (settled stoppedAtTwo ++ toAll) read (has 1025 
 unfolding computing
 at-two-reads f w =
     ap (λ (x : World). outcomeOf (site f) x read .reply)
-    (settles f stoppedAtTwo toAll (Some (2, other)) (ap (λ z. settledOn (site f) (at f stoppedAtTwo) z) (two-found f w)))
+    (goes-on-from f (settled stoppedAtTwo) toAll (settledOn (site f) (at f stoppedAtTwo) (Some (2, other))) (two-settled f w))
     ∙ reads (play (site f) toAll (settledOn (site f) (at f stoppedAtTwo) (Some (2, other))) .state) 1025 other (f (two 0 1 other))
     (worked f w 0 1 tt tt other other-may)
 
@@ -112,7 +115,9 @@ returned f = play (site f) onwards (settledOn (site f) (at f atOneLost) (Some (1
 
 late-world : (f : WorkOut) → WorksOut 2 f → at f lateReturn ≡ returned f
 unfolding computing
-late-world f w = settles f atOneLost onwards (Some (1, object)) (ap (λ z. settledOn (site f) (at f atOneLost) z) (lost-found f w))
+late-world f w =
+    goes-on-from f (settled atOneLost) onwards (settledOn (site f) (at f atOneLost) (Some (1, object)))
+    (settles f atOneLost (Some (1, object)) (ap (λ z. settledOn (site f) (at f atOneLost) z) (lost-found f w)))
 
 pub late-versions : Holds (versions lateReturn ((0, 1) ∷ (0, 2) ∷ (1, 1) ∷ (1, 1025) ∷ (2, 1) ∷ (2, 1025) ∷ []))
 unfolding computing
@@ -146,7 +151,20 @@ pub late-happens : Holds (happens lateReturn)
 unfolding computing Allowed
 late-happens f w =
     subst (Run (site f)) (sym (late-world f w))
-    (goes-on (site f) onwards (settledOn (site f) (at f atOneLost) (Some (1, object))) (lost-run f w)
-    (tt, (tt, (tt,
-    ((each-slot (λ k bytes. OnceBegun (play (site f) (take 3 onwards) (settledOn (site f) (at f atOneLost) (Some (1, object))) .disk .once 0 k) (format .decode 0 bytes)) (recordOf 0 0 1 (pieceOf 2 0 object))
-    (recordOf 0 0 2 (pieceOf 2 0 other)) (List·Memᴰ·head refl) (List·Memᴰ·head refl) (λ k. tt), lit≤ tt), (tt, tt))))))
+    (goes-on (site f) onwards (settledOn (site f) (at f atOneLost) (Some (1, object))) (lost-run f w) (
+      tt,
+      (
+        tt,
+        (
+          tt,
+          (
+            (
+              each-slot (λ k bytes. OnceBegun (play (site f) (take 3 onwards) (settledOn (site f) (at f atOneLost) (Some (1, object))) .disk .once 0 k) (site f .format .decode 0 bytes)) (recordOf 0 0 1 (pieceOf 2 0 object))
+                  (recordOf 0 0 2 (pieceOf 2 0 other)) (List·Memᴰ·head refl) (List·Memᴰ·head refl) (λ k. tt),
+              lit≤ tt,
+            ),
+            (tt, tt),
+          ),
+        ),
+      ),
+    ))

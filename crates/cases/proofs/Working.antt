@@ -45,5 +45,10 @@ worked f w d e less last c may =
     let high : e ≤ LAST = leb→le e LAST last in
     w .works (two d e c) c
     (record {
-        many = refl; drives = (omega arith, (high, tt)); distinct = (not-the-higher d e below, (List·Memᴰ·not-nil, tt));
-        bytes = may .bytes; short = may .short; pieces = refl })
+      many = refl;
+      drives = (omega arith, (high, tt));
+      distinct = (not-the-higher d e below, (List·Memᴰ·not-nil, tt));
+      bytes = may .bytes;
+      short = may .short;
+      pieces = refl;
+    })

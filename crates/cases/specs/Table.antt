@@ -8,7 +8,8 @@ use Rattle.std.specs.declared.option.Option.the-variants.{Some}
 use Rattle.bytes.specs.Byte.{mul}
 use Rattle.pieces.specs.Rows.{framed, pieceOf}
 use Rattle.slots.specs.Layout.{recordOf}
-use Rattle.keeper.specs.Object.{Reading, Reply, isVersion, has, found, mended}
+use Rattle.keeper.specs.declared.refusal.Refusal.the-variants.{TooFewPieces}
+use Rattle.keeper.specs.Object.{Reading, Reply, refused, has, found, mended}
 use Rattle.keeper.specs.Real.{WorkOut, WorksOut}
 use Rattle.recovery.specs.Disk.{readingsOf, howMany}
 use Rattle.recovery.specs.World.{World, Call, begin, write, finish, read, mend, settle, outcomeOf, weak}
@@ -28,7 +29,7 @@ pub data Row : Type 0 where
   back : (pieces : List (ℕ × List ℕ)) (object : List ℕ) → Row
   -- the events may happen, as the promise about all runs has it
   happens : (events : List Event) → Row
-  -- after the events, which may happen, one more may not
+  -- after the events this one may not happen
   mayNot : (events : List Event) (next : Event) → Row
   -- after the events the call is answered so
   answer : (events : List Event) (call : Call) (reply : Reply) → Row
@@ -42,7 +43,7 @@ pub data Row : Type 0 where
 abbrev pub versionsIn : List Reading → List (ℕ × ℕ)
 versionsIn rs = map (λ r. (r .drive, r .version)) rs
 
--- What is claimed of the world after events, whichever function works objects out of pieces.
+-- What is claimed of the world after events, whichever function works contents out of pieces: there is one, and only what it gives is known of it.
 abbrev pub After : List Event → (WorkOut → World → Type 0) → Type 0
 After events claim = (f : WorkOut) → WorksOut 2 f → claim f (play (site f) events atFirst)
 
@@ -132,14 +133,16 @@ table =
     -- drives 0 and 1 have version 1, which counts
     ∷ happens putOnTwo
     ∷ versions putOnTwo ((0, 1) ∷ (1, 1) ∷ [])
+    ∷ filed putOnTwo 1025 1
     ∷ answer putOnTwo read (has 1 object)
     -- drive 2 comes back: it is weak until it is mended
     ∷ happens backEmpty
     ∷ weakDrives backEmpty 1
     ∷ answer backEmpty (mend 2) (mended 1)
     ∷ weakDrives (backEmpty ++ (step (mend 2) ∷ [])) 0
-    -- drive 0 is out as well before that: two are weak, more than may be
+    -- drive 0 is out as well before that: two are weak, more than may be, and nothing can be read
     ∷ weakDrives (backEmpty ++ (goesOut 0 ∷ [])) 2
+    ∷ answer (backEmpty ++ (goesOut 0 ∷ [])) read (refused TooFewPieces)
     ∷ mayNot backEmpty (goesOut 0)
     -- version 2 was written to one drive when all stopped: settling finds version 1 and writes it as 1,025, as the file said
     ∷ happens stoppedAtOne
@@ -147,7 +150,7 @@ table =
     ∷ filed stoppedAtOne 1025 1
     ∷ answer stoppedAtOne settle (found 1 1025)
     -- the piece of version 2 is taken away
-    ∷ versions (settled stoppedAtOne ++ []) ((0, 1) ∷ (1, 1) ∷ (2, 1) ∷ [])
+    ∷ versions (settled stoppedAtOne) ((0, 1) ∷ (1, 1) ∷ (2, 1) ∷ [])
     ∷ answer (settled stoppedAtOne ++ toAll) read (has 1025 object)
     -- and doesn't count any more where it was out of reach and comes back
     ∷ happens lateReturn
