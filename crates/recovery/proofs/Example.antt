@@ -30,7 +30,7 @@ copies-laws =
     works′ c [] e = absurd (omega arith)
     works′ c (d ∷ ds) e = refl
 
-small : (n : ℕ) → n < 256 → (b : ℕ) → List·Memᴰ b (n ∷ []) → b < 256
+pub small : (n : ℕ) → n < 256 → (b : ℕ) → List·Memᴰ b (n ∷ []) → b < 256
 small n l b m = let e = List·Memᴰ·eq-of-singleton m in omega arith
 
 started : Run copies start

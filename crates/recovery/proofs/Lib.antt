@@ -13,5 +13,6 @@ pub mod Cleared
 pub mod Progress
 pub mod Store
 pub mod Example
+pub mod Wrong
 pub mod Existence
 pub mod Real

@@ -22,15 +22,18 @@ abbrev pub asSlot : List ℕ → Slot
 asSlot [] = empty
 asSlot (v ∷ p) = holds v p
 
--- Three drives, of which two are needed.
-abbrev pub copies : Site
-copies =
+-- So many drives, of which so many are needed; and three, of which two are needed.
+abbrev pub copiesOn : (drives need : ℕ) → Site
+copiesOn n need =
     record {
-      drives = 3;
-      need = 2;
+      drives = n;
+      need = need;
       codec = record { encode = λ d v p. v ∷ p; pieceOf = λ d c. c; workOut = ofFirst };
       format = record { decode = λ d bs. asSlot bs; lay = λ bs old. bs; wipe = λ d old. [] };
     }
+
+abbrev pub copies : Site
+copies = copiesOn 3 2
 
 abbrev pub start : World
 start =
