@@ -14,5 +14,4 @@ pub mod Progress
 pub mod Store
 pub mod Example
 pub mod Wrong
-pub mod Existence
 pub mod Real

@@ -1,14 +1,11 @@
 -- The runs of keepers that go wrong, played out.
 use mathlib.Core.Path.{_≡_, refl}
 use lib.Dec.{lit≤}
-use Rattle.keeper.specs.Readings.{anyOf, freePlace, ownPlace, contentOf, howManyIn, allHave}
-use Rattle.keeper.specs.Steps.{highest}
-use Rattle.recovery.specs.Disk.{readPlaces, readDrives, performAll, hasFrom, howMany}
 use Rattle.recovery.specs.Wrong.{moves, AllFair, SameNumber, BelowBar, NumberAgain, NoBar, WrongTurns}
-use Rattle.recovery.proofs.Example.{small}
+use Rattle.recovery.proofs.Example.{small, playing}
 
 same-number : SameNumber
-unfolding moves AllFair readPlaces readDrives performAll hasFrom howMany anyOf freePlace ownPlace contentOf howManyIn allHave highest
+unfolding playing moves AllFair
 same-number =
     record {
       fair = (small 7 (lit≤ tt), (tt, (tt, (tt, (tt, (tt, (small 8 (lit≤ tt), (tt, (tt, (lit≤ tt, (lit≤ tt, (tt, (tt, (tt, tt))))))))))))));
@@ -18,7 +15,7 @@ same-number =
     }
 
 below-bar : BelowBar
-unfolding moves AllFair readPlaces readDrives performAll hasFrom howMany anyOf freePlace ownPlace contentOf howManyIn allHave highest
+unfolding playing moves AllFair
 below-bar =
     record {
       fair = (small 7 (lit≤ tt), (tt, (tt, (lit≤ tt, (lit≤ tt, (tt, (tt, tt)))))));
@@ -28,7 +25,7 @@ below-bar =
     }
 
 number-again : NumberAgain
-unfolding moves AllFair readPlaces readDrives performAll hasFrom howMany anyOf freePlace ownPlace contentOf howManyIn allHave highest
+unfolding playing moves AllFair
 number-again =
     record {
       fair = (small 7 (lit≤ tt), (tt, (tt, (tt, (tt, (tt, (small 8 (lit≤ tt), (tt, (tt, (lit≤ tt, (lit≤ tt, (tt, (tt, (tt, (tt, (tt, tt))))))))))))))));
@@ -38,7 +35,7 @@ number-again =
     }
 
 no-bar : NoBar
-unfolding moves AllFair readPlaces readDrives performAll hasFrom howMany anyOf freePlace ownPlace contentOf howManyIn allHave highest
+unfolding playing moves AllFair
 no-bar = record { fair = (small 7 (lit≤ tt), (tt, (tt, (tt, (tt, (small 8 (lit≤ tt), (tt, (tt, (tt, tt))))))))); before = refl; after = refl }
 
 pub wrong-turns : WrongTurns
