@@ -1,3 +1,5 @@
 pub mod Words
 pub mod Digits
 pub mod Errors
+pub mod Orders
+pub mod Verbs

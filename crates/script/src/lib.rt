@@ -1,7 +1,10 @@
 // Lines to commands, and bytes to hexadecimal text: what every program here reads and writes.
+mod command;
 mod digits;
 mod error;
 mod words;
 
+pub use command::Command;
+pub use command::StopAt;
 pub use digits::hex;
 pub use error::LineError;
