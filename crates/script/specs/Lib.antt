@@ -3,3 +3,4 @@ pub mod Digits
 pub mod Errors
 pub mod Orders
 pub mod Verbs
+pub mod Arguments

@@ -1,4 +1,5 @@
 // Lines to commands, and bytes to hexadecimal text: what every program here reads and writes.
+mod arguments;
 mod command;
 mod digits;
 mod error;
