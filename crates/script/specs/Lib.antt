@@ -4,3 +4,4 @@ pub mod Errors
 pub mod Orders
 pub mod Verbs
 pub mod Arguments
+pub mod Meaning

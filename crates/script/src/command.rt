@@ -6,7 +6,7 @@ ghost use Rattle.script.specs.Orders.{shown};
 ghost use Rattle.script.specs.Verbs.{verbOf, rarerVerb, ofNone, ofOne, ofTwo, ofBytes};
 
 // Where a stop is to fall.
-#[derive(Clone, Copy, Debug, PartialEq, Eq)]
+#[derive(Clone, Copy)]
 pub enum StopAt {
     Now,
     // At the slot that is so many from now; 1 is the next.
@@ -15,26 +15,61 @@ pub enum StopAt {
     FileNew,
 }
 
-#[derive(Debug, Drop)]
+#[derive(Drop)]
 pub enum Command {
-    Begin { object: u64, bytes: Vec<u8> },
-    Write { object: u64, drive: u64 },
-    Finish { object: u64 },
-    Read { object: u64 },
-    Tidy { object: u64, drive: u64 },
-    Mend { object: u64, drive: u64 },
-    Sweep { drive: u64 },
-    Out { drive: u64 },
-    In { drive: u64 },
-    Settle { object: u64 },
-    GiveUp { object: u64 },
-    Put { object: u64, bytes: Vec<u8> },
+    Begin {
+        object: u64,
+        bytes: Vec<u8>,
+    },
+    Write {
+        object: u64,
+        drive: u64,
+    },
+    Finish {
+        object: u64,
+    },
+    Read {
+        object: u64,
+    },
+    Tidy {
+        object: u64,
+        drive: u64,
+    },
+    Mend {
+        object: u64,
+        drive: u64,
+    },
+    Sweep {
+        drive: u64,
+    },
+    Out {
+        drive: u64,
+    },
+    In {
+        drive: u64,
+    },
+    Settle {
+        object: u64,
+    },
+    GiveUp {
+        object: u64,
+    },
+    Put {
+        object: u64,
+        bytes: Vec<u8>,
+    },
     Heal,
     Count,
     Show,
     Stop(StopAt),
-    Wipe { drive: u64 },
-    Spoil { drive: u64, object: u64, version: u64 },
+    Wipe {
+        drive: u64,
+    },
+    Spoil {
+        drive: u64,
+        object: u64,
+        version: u64,
+    },
 }
 
 // A command's first word, by what has to follow it.

@@ -3,9 +3,12 @@ mod arguments;
 mod command;
 mod digits;
 mod error;
+mod reader;
 mod words;
 
 pub use command::Command;
 pub use command::StopAt;
 pub use digits::hex;
 pub use error::LineError;
+pub use error::LineErrorDisplay;
+pub use reader::parse;
