@@ -18,7 +18,7 @@ use Rattle.script.specs.declared.command.StopAt.{StopAt}
 use Rattle.script.specs.declared.command.StopAt.the-variants.{Now, Slot, FileOld, FileNew}
 use Rattle.script.specs.declared.error.LineError.{LineError}
 use Rattle.script.specs.declared.error.LineError.the-variants.{UnknownCommand, MissingWord, TooManyWords, NotNumber}
-use Rattle.script.specs.Digits.{decimal, fromHex}
+use Rattle.script.specs.Digits.{numberOf, fromHex}
 use Rattle.script.specs.Words.{Parts}
 
 -- How many words follow the first; 4 stands for all above three.
@@ -47,7 +47,7 @@ andThen (Err e) f = Err e
 
 -- The number that stands as the word at a place of the line.
 abbrev pub numberAt : ℕ → List ℕ → Result ℕ LineError
-numberAt place word = okOr (decimal 0 word) (NotNumber place)
+numberAt place word = okOr (numberOf word) (NotNumber place)
 
 abbrev pub oneNumber : Parts → Result ℕ LineError
 oneNumber p = unless (arity 1 1 p) (numberAt 2 (p .first))

@@ -2,7 +2,8 @@
 use mathlib.Core.Bool.{cond, _&&_}
 use mathlib.Core.List.{List, [], _∷_}
 use Prim.Native.Nat.{ℕ, _+_, _-_, _*_, _/_, _%_, _^_, min}
-use lib.Dec.{leb, ltb}
+use lib.Dec.{eqb, leb, ltb}
+use lib.ListN.{length}
 use Rattle.std.specs.declared.option.Option.{Option}
 use Rattle.std.specs.declared.option.Option.the-variants.{Some, None}
 use Rattle.std.specs.declared.result.Result.{Result}
@@ -14,6 +15,10 @@ use Rattle.script.specs.declared.error.LineError.the-variants.{OddDigits, NotH
 abbrev pub decimal : ℕ → List ℕ → Option ℕ
 decimal n [] = Some (min n (2 ^ 64 - 1))
 decimal n (b ∷ bs) = cond (leb 48 b && leb b 57) (decimal (n * 10 + (b - 48)) bs) None
+
+-- The number that a word is, where it is one.
+abbrev pub numberOf : List ℕ → Option ℕ
+numberOf word = cond (eqb (length word) 0) None (decimal 0 word)
 
 -- The value of a hexadecimal digit.
 abbrev pub nibble : ℕ → Option ℕ

@@ -5,15 +5,21 @@ ghost use Rattle.std.specs.Of.String.{string-bytes};
 ghost use Rattle.std.specs.Of.Vec.{vec-items};
 ghost use Rattle.std.specs.Vec.{made};
 ghost use Rattle.std.specs.declared.result.Result.the-variants.{Ok};
-ghost use Rattle.script.specs.Digits.{decimal, nibble, byteOf, fromHex, symbol, toHex};
+ghost use Rattle.script.specs.Digits.{decimal, numberOf, nibble, byteOf, fromHex, symbol, toHex};
 ghost use Rattle.script.specs.Errors.{Gives};
 use crate::error::LineError;
 use crate::error::LineErrorFromAlloc;
 use std::alloc::AllocError;
 use std::alloc::Global;
 
-// None where a byte isn't a digit. What is too large for 64 bits is taken as the largest number.
+// None where there is no digit, or another byte. What is too large for 64 bits is taken as the largest number.
 pub fn number(word: &[u8]) -> Option<u64>
+    ensures { λ r. ⌜ r ≡ numberOf (now (word .entry)) ⌝ }
+{
+    if word.is_empty() { None } else { value_of(word) }
+}
+
+fn value_of(word: &[u8]) -> Option<u64>
     ensures { λ r. ⌜ r ≡ decimal 0 (now (word .entry)) ⌝ }
 {
     let mut n: u64 = 0;

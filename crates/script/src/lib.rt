@@ -9,6 +9,7 @@ mod words;
 pub use command::Command;
 pub use command::StopAt;
 pub use digits::hex;
+pub use digits::number;
 pub use error::LineError;
 pub use error::LineErrorDisplay;
 pub use reader::parse;

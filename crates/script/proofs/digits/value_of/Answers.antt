@@ -4,7 +4,7 @@ use native.Mathlib.Omega.{arith}
 use lib.ListN.{getD, drop}
 use Rattle.script.specs.Digits.{decimal}
 use Rattle.script.proofs.Steps.{number-stop, number-step, number-end}
-use Rattle.script.proofs.digits.number.Needs as need
+use Rattle.script.proofs.digits.value_of.Needs as need
 
 pub returns-then-not-is-ascii-digit : need.returns-then-not-is-ascii-digit
 returns-then-not-is-ascii-digit c =
