@@ -20,8 +20,12 @@ pub impl fmt::Display for SetupError as SetupErrorDisplay {
     fn fmt<W: fmt::Write>(&self, f: &mut fmt::Formatter<W>) -> fmt::Result {
         match *self {
             SetupError::Usage => f.write_str("usage: rehearse N NEED"),
-            SetupError::Drives => f.write_str("N, the number of drives, must be a number from 2 to 32"),
-            SetupError::Need => f.write_str("NEED, the number of drives that give an object back, must be a number from 1 to N - 1"),
+            SetupError::Drives => f.write_str(
+                "N, the number of drives, must be a number from 2 to 32",
+            ),
+            SetupError::Need => f.write_str(
+                "NEED, the number of drives that give an object back, must be a number from 1 to N - 1",
+            ),
         }
     }
 }
@@ -41,5 +45,8 @@ pub fn set_up(drives: &[u8], need: &[u8]) -> Result<Setup, SetupError>
     if k < 1 || k >= n {
         return Err(SetupError::Need);
     }
-    Ok(Setup { drives: n as u8, need: k as u8 })
+    Ok(Setup {
+        drives: n as u8,
+        need: k as u8,
+    })
 }

@@ -3,7 +3,7 @@ use mathlib.Core.Bool.{cond}
 use mathlib.Core.List.{List}
 use Prim.Native.Nat.{ℕ}
 use lib.Chars.{codes}
-use lib.Dec.{eqb, ltb}
+use lib.Dec.{eqb}
 use lib.ListN.{length}
 use Rattle.std.specs.Of.Vec.{vec-items}
 use Rattle.std.specs.Options.{okOr}
@@ -21,19 +21,11 @@ use Rattle.script.specs.declared.error.LineError.the-variants.{UnknownCommand,
 use Rattle.script.specs.Digits.{numberOf, fromHex}
 use Rattle.script.specs.Words.{Parts}
 
--- How many words follow the first; 4 stands for all above three.
-abbrev pub following : Parts → ℕ
-following p =
-    cond (eqb (length (p .first)) 0) 0
-    (cond (eqb (length (p .second)) 0) 1
-    (cond (eqb (length (p .third)) 0) 2
-    (cond (eqb (length (p .more)) 0) 3 4)))
-
--- What is wrong with how many words follow the first.
-abbrev pub arity : (least most : ℕ) → Parts → Option LineError
-arity least most p =
-    cond (ltb (following p) least) (Some MissingWord)
-    (cond (ltb most (following p)) (Some TooManyWords) None)
+-- What is wrong with how many words there are, where `last` is the last that must be there and `beyond` the next after those that may be.
+abbrev pub arity : (last beyond : List ℕ) → Option LineError
+arity last beyond =
+    cond (eqb (length last) 0) (Some MissingWord)
+    (cond (eqb (length beyond) 0) None (Some TooManyWords))
 
 -- An answer, unless something is wrong.
 abbrev pub unless : {A : Type 0} → Option LineError → Result A LineError → Result A LineError
@@ -50,34 +42,34 @@ abbrev pub numberAt : ℕ → List ℕ → Result ℕ LineError
 numberAt place word = okOr (numberOf word) (NotNumber place)
 
 abbrev pub oneNumber : Parts → Result ℕ LineError
-oneNumber p = unless (arity 1 1 p) (numberAt 2 (p .first))
+oneNumber p = unless (arity (p .first) (p .second)) (numberAt 2 (p .first))
 
 abbrev pub twoNumbers : Parts → Result (ℕ × ℕ) LineError
 twoNumbers p =
-    unless (arity 2 2 p)
+    unless (arity (p .second) (p .third))
     (andThen (numberAt 2 (p .first)) (λ a. andThen (numberAt 3 (p .second)) (λ b. Ok (a, b))))
 
 abbrev pub threeNumbers : Parts → Result (ℕ × ℕ × ℕ) LineError
 threeNumbers p =
-    unless (arity 3 3 p)
+    unless (arity (p .third) (p .more))
     (andThen (numberAt 2 (p .first)) (λ a. andThen (numberAt 3 (p .second)) (λ b. andThen (numberAt 4 (p .third)) (λ c. Ok (a, b, c)))))
 
 -- The bytes may be left out: then there are none.
 abbrev pub numberAndBytes : Parts → Result (ℕ × List ℕ) LineError
 numberAndBytes p =
-    unless (arity 1 2 p)
+    unless (arity (p .first) (p .third))
     (andThen (numberAt 2 (p .first)) (λ a. andThen (fromHex (p .second)) (λ bytes. Ok (a, bytes))))
 
 abbrev pub withItems : ℕ × Vec ℕ Global → ℕ × List ℕ
 withItems r = (r .0, vec-items (r .1))
 
 abbrev pub giveUp : Parts → Result ℕ LineError
-giveUp p = unless (arity 2 2 p) (cond (sameBytes (p .first) (codes "up")) (numberAt 3 (p .second)) (Err UnknownCommand))
+giveUp p = unless (arity (p .second) (p .third)) (cond (sameBytes (p .first) (codes "up")) (numberAt 3 (p .second)) (Err UnknownCommand))
 
 -- `stop 0` stops now.
 abbrev pub stopAt : Parts → Result StopAt LineError
 stopAt p =
-    unless (arity 1 1 p)
+    unless (arity (p .first) (p .second))
     (cond (sameBytes (p .first) (codes "old")) (Ok FileOld)
     (cond (sameBytes (p .first) (codes "new")) (Ok FileNew)
     (andThen (numberAt 2 (p .first)) (λ k. Ok (cond (eqb k 0) Now (Slot k))))))

@@ -25,7 +25,7 @@ isComment (b ∷ bs) = eqb b 35
 
 -- What a command's words ask for.
 abbrev pub orderOf : Verb → Parts → Result Order LineError
-orderOf (Alone v) p = unless (arity 0 0 p) (Ok (ofNone v))
+orderOf (Alone v) p = unless (arity (p .name) (p .first)) (Ok (ofNone v))
 orderOf (Number v) p = andThen (oneNumber p) (λ n. Ok (ofOne v n))
 orderOf (Numbers v) p = andThen (twoNumbers p) (λ r. Ok (ofTwo v (r .0) (r .1)))
 orderOf (Bytes v) p = andThen (numberAndBytes p) (λ r. Ok (ofBytes v (r .0) (r .1)))

@@ -18,30 +18,50 @@ use Rattle.script.specs.declared.command.NumberAndBytes.{NumberAndBytes}
 use Rattle.script.specs.declared.command.NumberAndBytes.the-variants.{Begin, Put}
 use Rattle.script.specs.Orders.{Order, begins, writes, finishes, reads, tidies, mends, sweeps, takesOut, takesIn, settles, puts, heals, counts, shows, wipes}
 
--- The words that come less often.
-abbrev pub rarerVerb : List ℕ → Option Verb
-rarerVerb name =
-    cond (sameBytes name (codes "heal")) (Some (Alone Heal))
-    (cond (sameBytes name (codes "count")) (Some (Alone Count))
-    (cond (sameBytes name (codes "show")) (Some (Alone Show))
-    (cond (sameBytes name (codes "give")) (Some Give)
+abbrev pub aloneOf : List ℕ → Option AloneT
+aloneOf name =
+    cond (sameBytes name (codes "heal")) (Some Heal)
+    (cond (sameBytes name (codes "count")) (Some Count)
+    (cond (sameBytes name (codes "show")) (Some Show) None))
+
+abbrev pub oneOf : List ℕ → Option OneNumber
+oneOf name =
+    cond (sameBytes name (codes "finish")) (Some Finish)
+    (cond (sameBytes name (codes "read")) (Some Read)
+    (cond (sameBytes name (codes "settle")) (Some Settle)
+    (cond (sameBytes name (codes "sweep")) (Some Sweep)
+    (cond (sameBytes name (codes "out")) (Some Out)
+    (cond (sameBytes name (codes "in")) (Some In)
+    (cond (sameBytes name (codes "wipe")) (Some Wipe) None))))))
+
+abbrev pub twoOf : List ℕ → Option TwoNumbers
+twoOf name =
+    cond (sameBytes name (codes "write")) (Some Write)
+    (cond (sameBytes name (codes "tidy")) (Some Tidy)
+    (cond (sameBytes name (codes "mend")) (Some Mend) None))
+
+abbrev pub bytesOf : List ℕ → Option NumberAndBytes
+bytesOf name =
+    cond (sameBytes name (codes "begin")) (Some Begin)
+    (cond (sameBytes name (codes "put")) (Some Put) None)
+
+abbrev pub otherOf : List ℕ → Option Verb
+otherOf name =
+    cond (sameBytes name (codes "give")) (Some Give)
     (cond (sameBytes name (codes "stop")) (Some Stop)
-    (cond (sameBytes name (codes "spoil")) (Some Spoil) None)))))
+    (cond (sameBytes name (codes "spoil")) (Some Spoil) None))
+
+-- What is found first.
+abbrev pub orElse : {A B : Type 0} → (A → B) → Option A → Option B → Option B
+orElse f (Some x) other = Some (f x)
+orElse f None other = other
 
 abbrev pub verbOf : List ℕ → Option Verb
 verbOf name =
-    cond (sameBytes name (codes "begin")) (Some (Bytes Begin))
-    (cond (sameBytes name (codes "put")) (Some (Bytes Put))
-    (cond (sameBytes name (codes "write")) (Some (Numbers Write))
-    (cond (sameBytes name (codes "tidy")) (Some (Numbers Tidy))
-    (cond (sameBytes name (codes "mend")) (Some (Numbers Mend))
-    (cond (sameBytes name (codes "finish")) (Some (Number Finish))
-    (cond (sameBytes name (codes "read")) (Some (Number Read))
-    (cond (sameBytes name (codes "settle")) (Some (Number Settle))
-    (cond (sameBytes name (codes "sweep")) (Some (Number Sweep))
-    (cond (sameBytes name (codes "out")) (Some (Number Out))
-    (cond (sameBytes name (codes "in")) (Some (Number In))
-    (cond (sameBytes name (codes "wipe")) (Some (Number Wipe)) (rarerVerb name))))))))))))
+    orElse Alone (aloneOf name)
+    (orElse Number (oneOf name)
+    (orElse Numbers (twoOf name)
+    (orElse Bytes (bytesOf name) (otherOf name))))
 
 abbrev pub ofNone : AloneT → Order
 ofNone Heal = heals

@@ -3,7 +3,7 @@ ghost use mathlib.Core.Path.{_≡_};
 ghost use Rattle.std.specs.Of.Vec.{vec-items};
 ghost use Rattle.std.specs.Results.{Cases};
 ghost use Rattle.std.specs.declared.option.Option.the-variants.{Some, None};
-ghost use Rattle.script.specs.Arguments.{following, arity, numberAt, oneNumber, twoNumbers, numberAndBytes, withItems, giveUp, stopAt, threeNumbers};
+ghost use Rattle.script.specs.Arguments.{arity, numberAt, oneNumber, twoNumbers, numberAndBytes, withItems, giveUp, stopAt, threeNumbers};
 ghost use Rattle.script.specs.Errors.{Gives};
 ghost use Rattle.script.specs.Words.{seen};
 use crate::command::StopAt;
@@ -14,33 +14,16 @@ use crate::error::LineError;
 use crate::words::Words;
 use std::alloc::Global;
 
-fn count(words: Words<'_>) -> u8
-    ensures { λ r. ⌜ r ≡ following (seen (words .entry)) ⌝ }
+// Refuses a line that ends before the word `last`, or goes on with `beyond`.
+pub fn expect(last: &[u8], beyond: &[u8]) -> Result<(), LineError>
+    ensures { λ r. ⌜ Cases r (λ _. arity (now (last .entry)) (now (beyond .entry)) ≡ None) (λ e. arity (now (last .entry)) (now (beyond .entry)) ≡ Some e) ⌝ }
 {
-    if words.first.is_empty() {
-        0
-    } else if words.second.is_empty() {
-        1
-    } else if words.third.is_empty() {
-        2
-    } else if words.more.is_empty() {
-        3
-    } else {
-        4
-    }
-}
-
-// Refuses a line in which fewer than `least` or more than `most` words follow the first.
-pub fn expect(words: Words<'_>, least: u8, most: u8) -> Result<(), LineError>
-    ensures { λ r. ⌜ Cases r (λ _. arity least most (seen (words .entry)) ≡ None) (λ e. arity least most (seen (words .entry)) ≡ Some e) ⌝ }
-{
-    let n = count(words);
-    if n < least {
+    if last.is_empty() {
         Err(LineError::MissingWord)
-    } else if n > most {
-        Err(LineError::TooManyWords)
-    } else {
+    } else if beyond.is_empty() {
         Ok(())
+    } else {
+        Err(LineError::TooManyWords)
     }
 }
 
@@ -54,14 +37,14 @@ fn number_at(word: &[u8], place: u8) -> Result<u64, LineError>
 pub fn one_number(words: Words<'_>) -> Result<u64, LineError>
     ensures { λ r. ⌜ r ≡ oneNumber (seen (words .entry)) ⌝ }
 {
-    expect(words, 1, 1)?;
+    expect(words.first, words.second)?;
     number_at(words.first, 2)
 }
 
 pub fn two_numbers(words: Words<'_>) -> Result<(u64, u64), LineError>
     ensures { λ r. ⌜ r ≡ twoNumbers (seen (words .entry)) ⌝ }
 {
-    expect(words, 2, 2)?;
+    expect(words.second, words.third)?;
     let first = number_at(words.first, 2)?;
     let second = number_at(words.second, 3)?;
     Ok((first, second))
@@ -70,7 +53,7 @@ pub fn two_numbers(words: Words<'_>) -> Result<(u64, u64), LineError>
 pub fn three_numbers(words: Words<'_>) -> Result<(u64, u64, u64), LineError>
     ensures { λ r. ⌜ r ≡ threeNumbers (seen (words .entry)) ⌝ }
 {
-    expect(words, 3, 3)?;
+    expect(words.third, words.more)?;
     let first = number_at(words.first, 2)?;
     let second = number_at(words.second, 3)?;
     let third = number_at(words.third, 4)?;
@@ -80,7 +63,7 @@ pub fn three_numbers(words: Words<'_>) -> Result<(u64, u64, u64), LineError>
 pub fn number_and_bytes(heap: Global, words: Words<'_>) -> Result<(u64, Vec<u8>), LineError>
     ensures { λ r. ⌜ Gives (Unit {0}) withItems (numberAndBytes (seen (words .entry))) r ⌝ }
 {
-    expect(words, 1, 2)?;
+    expect(words.first, words.third)?;
     let object = number_at(words.first, 2)?;
     let bytes = unhex(heap, words.second)?;
     Ok((object, bytes))
@@ -89,7 +72,7 @@ pub fn number_and_bytes(heap: Global, words: Words<'_>) -> Result<(u64, Vec<u8>)
 pub fn give_up(words: Words<'_>) -> Result<u64, LineError>
     ensures { λ r. ⌜ r ≡ giveUp (seen (words .entry)) ⌝ }
 {
-    expect(words, 2, 2)?;
+    expect(words.second, words.third)?;
     if same(words.first, b"up") {
         number_at(words.second, 3)
     } else {
@@ -100,7 +83,7 @@ pub fn give_up(words: Words<'_>) -> Result<u64, LineError>
 pub fn stop_at(words: Words<'_>) -> Result<StopAt, LineError>
     ensures { λ r. ⌜ r ≡ stopAt (seen (words .entry)) ⌝ }
 {
-    expect(words, 1, 1)?;
+    expect(words.first, words.second)?;
     if same(words.first, b"old") {
         return Ok(StopAt::FileOld);
     }

@@ -3,7 +3,7 @@ ghost use mathlib.Core.Path.{_≡_};
 ghost use Rattle.std.specs.Of.Vec.{vec-items};
 ghost use Rattle.std.specs.shelf.Text.{sameBytes};
 ghost use Rattle.script.specs.Orders.{shown};
-ghost use Rattle.script.specs.Verbs.{verbOf, rarerVerb, ofNone, ofOne, ofTwo, ofBytes};
+ghost use Rattle.script.specs.Verbs.{aloneOf, oneOf, twoOf, bytesOf, otherOf, verbOf, ofNone, ofOne, ofTwo, ofBytes};
 
 // Where a stop is to fall.
 #[derive(Clone, Copy)]
@@ -175,45 +175,87 @@ pub fn same(a: &[u8], b: &[u8]) -> bool
 pub fn verb_of(name: &[u8]) -> Option<Verb>
     ensures { λ r. ⌜ r ≡ verbOf (now (name .entry)) ⌝ }
 {
-    if same(name, b"begin") {
-        Some(Verb::Bytes(NumberAndBytes::Begin))
-    } else if same(name, b"put") {
-        Some(Verb::Bytes(NumberAndBytes::Put))
-    } else if same(name, b"write") {
-        Some(Verb::Numbers(TwoNumbers::Write))
-    } else if same(name, b"tidy") {
-        Some(Verb::Numbers(TwoNumbers::Tidy))
-    } else if same(name, b"mend") {
-        Some(Verb::Numbers(TwoNumbers::Mend))
-    } else if same(name, b"finish") {
-        Some(Verb::Number(OneNumber::Finish))
-    } else if same(name, b"read") {
-        Some(Verb::Number(OneNumber::Read))
-    } else if same(name, b"settle") {
-        Some(Verb::Number(OneNumber::Settle))
-    } else if same(name, b"sweep") {
-        Some(Verb::Number(OneNumber::Sweep))
-    } else if same(name, b"out") {
-        Some(Verb::Number(OneNumber::Out))
-    } else if same(name, b"in") {
-        Some(Verb::Number(OneNumber::In))
-    } else if same(name, b"wipe") {
-        Some(Verb::Number(OneNumber::Wipe))
+    if let Some(verb) = alone_of(name) {
+        return Some(Verb::Alone(verb));
+    }
+    if let Some(verb) = one_of(name) {
+        return Some(Verb::Number(verb));
+    }
+    if let Some(verb) = two_of(name) {
+        return Some(Verb::Numbers(verb));
+    }
+    if let Some(verb) = bytes_of(name) {
+        return Some(Verb::Bytes(verb));
+    }
+    other_of(name)
+}
+
+fn alone_of(name: &[u8]) -> Option<Alone>
+    ensures { λ r. ⌜ r ≡ aloneOf (now (name .entry)) ⌝ }
+{
+    if same(name, b"heal") {
+        Some(Alone::Heal)
+    } else if same(name, b"count") {
+        Some(Alone::Count)
+    } else if same(name, b"show") {
+        Some(Alone::Show)
     } else {
-        rarer_verb(name)
+        None
     }
 }
 
-fn rarer_verb(name: &[u8]) -> Option<Verb>
-    ensures { λ r. ⌜ r ≡ rarerVerb (now (name .entry)) ⌝ }
+fn one_of(name: &[u8]) -> Option<OneNumber>
+    ensures { λ r. ⌜ r ≡ oneOf (now (name .entry)) ⌝ }
 {
-    if same(name, b"heal") {
-        Some(Verb::Alone(Alone::Heal))
-    } else if same(name, b"count") {
-        Some(Verb::Alone(Alone::Count))
-    } else if same(name, b"show") {
-        Some(Verb::Alone(Alone::Show))
-    } else if same(name, b"give") {
+    if same(name, b"finish") {
+        Some(OneNumber::Finish)
+    } else if same(name, b"read") {
+        Some(OneNumber::Read)
+    } else if same(name, b"settle") {
+        Some(OneNumber::Settle)
+    } else if same(name, b"sweep") {
+        Some(OneNumber::Sweep)
+    } else if same(name, b"out") {
+        Some(OneNumber::Out)
+    } else if same(name, b"in") {
+        Some(OneNumber::In)
+    } else if same(name, b"wipe") {
+        Some(OneNumber::Wipe)
+    } else {
+        None
+    }
+}
+
+fn two_of(name: &[u8]) -> Option<TwoNumbers>
+    ensures { λ r. ⌜ r ≡ twoOf (now (name .entry)) ⌝ }
+{
+    if same(name, b"write") {
+        Some(TwoNumbers::Write)
+    } else if same(name, b"tidy") {
+        Some(TwoNumbers::Tidy)
+    } else if same(name, b"mend") {
+        Some(TwoNumbers::Mend)
+    } else {
+        None
+    }
+}
+
+fn bytes_of(name: &[u8]) -> Option<NumberAndBytes>
+    ensures { λ r. ⌜ r ≡ bytesOf (now (name .entry)) ⌝ }
+{
+    if same(name, b"begin") {
+        Some(NumberAndBytes::Begin)
+    } else if same(name, b"put") {
+        Some(NumberAndBytes::Put)
+    } else {
+        None
+    }
+}
+
+fn other_of(name: &[u8]) -> Option<Verb>
+    ensures { λ r. ⌜ r ≡ otherOf (now (name .entry)) ⌝ }
+{
+    if same(name, b"give") {
         Some(Verb::Give)
     } else if same(name, b"stop") {
         Some(Verb::Stop)

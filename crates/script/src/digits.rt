@@ -16,7 +16,11 @@ use std::alloc::Global;
 pub fn number(word: &[u8]) -> Option<u64>
     ensures { λ r. ⌜ r ≡ numberOf (now (word .entry)) ⌝ }
 {
-    if word.is_empty() { None } else { value_of(word) }
+    if word.is_empty() {
+        None
+    } else {
+        value_of(word)
+    }
 }
 
 fn value_of(word: &[u8]) -> Option<u64>

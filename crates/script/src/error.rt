@@ -4,7 +4,7 @@ ghost use Rattle.script.specs.declared.error.LineError.the-variants.{NoMemory}
 use std::alloc::AllocError;
 use std::fmt;
 
-#[derive(Clone, Copy, Debug, PartialEq, Eq)]
+#[derive(Clone, Copy)]
 pub enum LineError {
     UnknownCommand,
     MissingWord,

@@ -35,7 +35,7 @@ fn command(heap: Global, verb: Verb, words: Words<'_>) -> Result<Command, LineEr
 {
     match verb {
         Verb::Alone(verb) => {
-            expect(words, 0, 0)?;
+            expect(words.name, words.first)?;
             Ok(verb.command())
         }
         Verb::Number(verb) => Ok(verb.command(one_number(words)?)),
