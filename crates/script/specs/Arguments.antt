@@ -41,6 +41,7 @@ andThen (Err e) f = Err e
 abbrev pub numberAt : ℕ → List ℕ → Result ℕ LineError
 numberAt place word = okOr (numberOf word) (NotNumber place)
 
+-- The words that follow, for each kind of command. Places of words count from 1, and the first is the command's.
 abbrev pub oneNumber : Parts → Result ℕ LineError
 oneNumber p = unless (arity (p .first) (p .second)) (numberAt 2 (p .first))
 
@@ -60,13 +61,15 @@ numberAndBytes p =
     unless (arity (p .first) (p .third))
     (andThen (numberAt 2 (p .first)) (λ a. andThen (fromHex (p .second)) (λ bytes. Ok (a, bytes))))
 
+-- The same, with the bytes of the Vec.
 abbrev pub withItems : ℕ × Vec ℕ Global → ℕ × List ℕ
 withItems r = (r .0, vec-items (r .1))
 
+-- `give up O`.
 abbrev pub giveUp : Parts → Result ℕ LineError
 giveUp p = unless (arity (p .second) (p .third)) (cond (sameBytes (p .first) (codes "up")) (numberAt 3 (p .second)) (Err UnknownCommand))
 
--- `stop 0` stops now.
+-- `stop old`, `stop new` or `stop K`; `stop 0` stops now.
 abbrev pub stopAt : Parts → Result StopAt LineError
 stopAt p =
     unless (arity (p .first) (p .second))

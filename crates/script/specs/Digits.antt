@@ -1,5 +1,5 @@
 -- Decimal numbers and hexadecimal bytes, as they are read and written. Assumes nothing.
-use mathlib.Core.Bool.{cond, _&&_}
+use mathlib.Core.Bool.{Bool, cond, _&&_}
 use mathlib.Core.List.{List, [], _∷_}
 use Prim.Native.Nat.{ℕ, _+_, _-_, _*_, _/_, _%_, _^_, min}
 use lib.Dec.{eqb, leb, ltb}
@@ -11,10 +11,14 @@ use Rattle.std.specs.declared.result.Result.the-variants.{Ok, Err}
 use Rattle.script.specs.declared.error.LineError.{LineError}
 use Rattle.script.specs.declared.error.LineError.the-variants.{OddDigits, NotHexadecimal}
 
+-- `b` is from `low` to `high`.
+abbrev pub within : ℕ → ℕ → ℕ → Bool
+within low high b = leb low b && leb b high
+
 -- The number that decimal digits stand for, after digits that stand for `n`; the largest of 64 bits where it is larger, and None where a byte isn't a digit.
 abbrev pub decimal : ℕ → List ℕ → Option ℕ
 decimal n [] = Some (min n (2 ^ 64 - 1))
-decimal n (b ∷ bs) = cond (leb 48 b && leb b 57) (decimal (n * 10 + (b - 48)) bs) None
+decimal n (b ∷ bs) = cond (within 48 57 b) (decimal (n * 10 + (b - 48)) bs) None
 
 -- The number that a word is, where it is one.
 abbrev pub numberOf : List ℕ → Option ℕ
@@ -23,9 +27,9 @@ numberOf word = cond (eqb (length word) 0) None (decimal 0 word)
 -- The value of a hexadecimal digit.
 abbrev pub nibble : ℕ → Option ℕ
 nibble b =
-    cond (leb 48 b && leb b 57) (Some (b - 48))
-    (cond (leb 97 b && leb b 102) (Some (b - 97 + 10))
-    (cond (leb 65 b && leb b 70) (Some (b - 65 + 10)) None))
+    cond (within 48 57 b) (Some (b - 48))
+    (cond (within 97 102 b) (Some (b - 97 + 10))
+    (cond (within 65 70 b) (Some (b - 65 + 10)) None))
 
 -- The byte that two hexadecimal digits stand for, the higher first.
 abbrev pub byteOf : Option ℕ → Option ℕ → Option ℕ

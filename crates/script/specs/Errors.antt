@@ -7,6 +7,7 @@ use Rattle.std.specs.declared.result.Result.the-variants.{Ok, Err}
 use Rattle.script.specs.declared.error.LineError.{LineError}
 use Rattle.script.specs.declared.error.LineError.the-variants.{UnknownCommand, MissingWord, TooManyWords, NotNumber, OddDigits, NotHexadecimal, NoMemory}
 
+-- Each case's number; 7 is want of memory, which says nothing of the line.
 abbrev pub number : LineError → ℕ
 number UnknownCommand = 1
 number MissingWord = 2

@@ -33,6 +33,7 @@ orderOf Give p = andThen (giveUp p) (λ o. Ok (givesUp o))
 orderOf Stop p = andThen (stopAt p) (λ at. Ok (stops at))
 orderOf Spoil p = andThen (threeNumbers p) (λ r. Ok (spoils (r .0) (r .1) (r .2)))
 
+-- What a line's words ask for, where its first word is that of a command.
 abbrev pub ordered : Option Verb → Parts → Result (Option Order) LineError
 ordered None p = Err UnknownCommand
 ordered (Some verb) p = andThen (orderOf verb p) (λ order. Ok (Some order))
@@ -41,6 +42,7 @@ ordered (Some verb) p = andThen (orderOf verb p) (λ order. Ok (Some order))
 abbrev pub meaning : List ℕ → Result (Option Order) LineError
 meaning line = cond (eqb (length (word line)) 0 || isComment line) (Ok None) (ordered (verbOf (word line)) (parts line))
 
+-- Bytes may follow the word: only then is memory asked for.
 abbrev pub takesBytes : Verb → Bool
 takesBytes (Alone v) = false
 takesBytes (Number v) = false

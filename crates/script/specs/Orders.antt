@@ -6,6 +6,7 @@ use Rattle.script.specs.declared.command.StopAt.{StopAt}
 use Rattle.script.specs.declared.command.Command.{Command}
 use Rattle.script.specs.declared.command.Command.the-variants.{Begin, Write, Finish, Read, Tidy, Mend, Sweep, Out, In, Settle, GiveUp, Put, Heal, Count, Show, Stop, Wipe, Spoil}
 
+-- One case for each command.
 pub data Order : Type 0 where
   begins : (object : ℕ) (bytes : List ℕ) → Order
   writes : (object drive : ℕ) → Order

@@ -18,12 +18,14 @@ use Rattle.script.specs.declared.command.NumberAndBytes.{NumberAndBytes}
 use Rattle.script.specs.declared.command.NumberAndBytes.the-variants.{Begin, Put}
 use Rattle.script.specs.Orders.{Order, begins, writes, finishes, reads, tidies, mends, sweeps, takesOut, takesIn, settles, puts, heals, counts, shows, wipes}
 
+-- Words that stand alone.
 abbrev pub aloneOf : List ℕ → Option AloneT
 aloneOf name =
     cond (sameBytes name (codes "heal")) (Some Heal)
     (cond (sameBytes name (codes "count")) (Some Count)
     (cond (sameBytes name (codes "show")) (Some Show) None))
 
+-- Words that one number follows.
 abbrev pub oneOf : List ℕ → Option OneNumber
 oneOf name =
     cond (sameBytes name (codes "finish")) (Some Finish)
@@ -34,28 +36,32 @@ oneOf name =
     (cond (sameBytes name (codes "in")) (Some In)
     (cond (sameBytes name (codes "wipe")) (Some Wipe) None))))))
 
+-- Words that two numbers follow, an object and a drive.
 abbrev pub twoOf : List ℕ → Option TwoNumbers
 twoOf name =
     cond (sameBytes name (codes "write")) (Some Write)
     (cond (sameBytes name (codes "tidy")) (Some Tidy)
     (cond (sameBytes name (codes "mend")) (Some Mend) None))
 
+-- Words that an object and its bytes follow.
 abbrev pub bytesOf : List ℕ → Option NumberAndBytes
 bytesOf name =
     cond (sameBytes name (codes "begin")) (Some Begin)
     (cond (sameBytes name (codes "put")) (Some Put) None)
 
+-- Words that something of their own follows.
 abbrev pub otherOf : List ℕ → Option Verb
 otherOf name =
     cond (sameBytes name (codes "give")) (Some Give)
     (cond (sameBytes name (codes "stop")) (Some Stop)
     (cond (sameBytes name (codes "spoil")) (Some Spoil) None))
 
--- What is found first.
+-- What was found, or else what is found next.
 abbrev pub orElse : {A B : Type 0} → (A → B) → Option A → Option B → Option B
 orElse f (Some x) other = Some (f x)
 orElse f None other = other
 
+-- The first word of a line, if it is that of a command.
 abbrev pub verbOf : List ℕ → Option Verb
 verbOf name =
     orElse Alone (aloneOf name)
@@ -63,6 +69,7 @@ verbOf name =
     (orElse Numbers (twoOf name)
     (orElse Bytes (bytesOf name) (otherOf name))))
 
+-- What the words ask for with what follows them.
 abbrev pub ofNone : AloneT → Order
 ofNone Heal = heals
 ofNone Count = counts

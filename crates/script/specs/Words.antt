@@ -28,7 +28,7 @@ word line = front (trimmed line)
 abbrev pub after : List ℕ → List ℕ
 after line = back (trimmed line)
 
--- The first five words of a line.
+-- The first five words of a line, each empty where there is none: a command has four at most, and the fifth shows that there are more.
 pub record Parts : Type 0 where
   pub name : List ℕ
   pub first : List ℕ

@@ -1,6 +1,5 @@
 // What follows a command's first word.
 ghost use mathlib.Core.Path.{_≡_};
-ghost use Rattle.std.specs.Of.Vec.{vec-items};
 ghost use Rattle.std.specs.Results.{Cases};
 ghost use Rattle.std.specs.declared.option.Option.the-variants.{Some, None};
 ghost use Rattle.script.specs.Arguments.{arity, numberAt, oneNumber, twoNumbers, numberAndBytes, withItems, giveUp, stopAt, threeNumbers};
@@ -20,10 +19,10 @@ pub fn expect(last: &[u8], beyond: &[u8]) -> Result<(), LineError>
 {
     if last.is_empty() {
         Err(LineError::MissingWord)
-    } else if beyond.is_empty() {
-        Ok(())
-    } else {
+    } else if !beyond.is_empty() {
         Err(LineError::TooManyWords)
+    } else {
+        Ok(())
     }
 }
 
@@ -60,6 +59,7 @@ pub fn three_numbers(words: Words<'_>) -> Result<(u64, u64, u64), LineError>
     Ok((first, second, third))
 }
 
+// The bytes may be left out: then there are none.
 pub fn number_and_bytes(heap: Global, words: Words<'_>) -> Result<(u64, Vec<u8>), LineError>
     ensures { λ r. ⌜ Gives (Unit {0}) withItems (numberAndBytes (seen (words .entry))) r ⌝ }
 {
@@ -69,6 +69,7 @@ pub fn number_and_bytes(heap: Global, words: Words<'_>) -> Result<(u64, Vec<u8>)
     Ok((object, bytes))
 }
 
+// The words after `give`.
 pub fn give_up(words: Words<'_>) -> Result<u64, LineError>
     ensures { λ r. ⌜ r ≡ giveUp (seen (words .entry)) ⌝ }
 {

@@ -166,6 +166,7 @@ impl NumberAndBytes {
     }
 }
 
+// `==` on slices, said by a test that definitions can use.
 pub fn same(a: &[u8], b: &[u8]) -> bool
     ensures { λ r. ⌜ r ≡ sameBytes (now (a .entry)) (now (b .entry)) ⌝ }
 {

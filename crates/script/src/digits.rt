@@ -5,7 +5,7 @@ ghost use Rattle.std.specs.Of.String.{string-bytes};
 ghost use Rattle.std.specs.Of.Vec.{vec-items};
 ghost use Rattle.std.specs.Vec.{made};
 ghost use Rattle.std.specs.declared.result.Result.the-variants.{Ok};
-ghost use Rattle.script.specs.Digits.{decimal, numberOf, nibble, byteOf, fromHex, symbol, toHex};
+ghost use Rattle.script.specs.Digits.{within, decimal, numberOf, nibble, byteOf, fromHex, symbol, toHex};
 ghost use Rattle.script.specs.Errors.{Gives};
 use crate::error::LineError;
 use crate::error::LineErrorFromAlloc;
@@ -36,17 +36,28 @@ fn value_of(word: &[u8]) -> Option<u64>
     Some(n)
 }
 
+fn between(low: u8, high: u8, digit: u8) -> bool
+    ensures { λ r. ⌜ r ≡ within low high digit ⌝ }
+{
+    low <= digit && digit <= high
+}
+
+// The value of a hexadecimal digit.
 fn value(digit: u8) -> Option<u8>
     ensures { λ r. ⌜ r ≡ nibble digit ⌝ }
 {
-    match digit {
-        b'0'..=b'9' => Some(digit - b'0'),
-        b'a'..=b'f' => Some(digit - b'a' + 10),
-        b'A'..=b'F' => Some(digit - b'A' + 10),
-        _ => None,
+    if between(b'0', b'9', digit) {
+        Some(digit - b'0')
+    } else if between(b'a', b'f', digit) {
+        Some(digit - b'a' + 10)
+    } else if between(b'A', b'F', digit) {
+        Some(digit - b'A' + 10)
+    } else {
+        None
     }
 }
 
+// The bytes that pairs of hexadecimal digits stand for. Memory is asked for once, for all of them.
 pub fn unhex(heap: Global, digits: &[u8]) -> Result<Vec<u8>, LineError>
     ensures { λ r. ⌜ Gives (Unit {0}) vec-items (fromHex (now (digits .entry))) r ⌝ }
 {
@@ -66,6 +77,7 @@ pub fn unhex(heap: Global, digits: &[u8]) -> Result<Vec<u8>, LineError>
     }
 }
 
+// The byte that two hexadecimal digits stand for.
 fn pair(high: u8, low: u8) -> Option<u8>
     ensures { λ r. ⌜ r ≡ byteOf (nibble high) (nibble low) ⌝ }
 {

@@ -12,6 +12,7 @@ pub struct Words<'a> {
     pub more: &'a [u8],
 }
 
+// No bytes are copied: the words are parts of `line`.
 pub fn split(line: &[u8]) -> Words<'_>
     ensures { λ r. ⌜ seen r ≡ parts (now (line .entry)) ⌝ }
 {
