@@ -5,7 +5,7 @@ ghost use Prim.Native.Nat.{ℕ};
 ghost use lib.Dec.{ltb};
 ghost use lib.ListN.{length, getD, set, take, replicate};
 ghost use Rattle.std.specs.Options.{Cases as BySome};
-ghost use Rattle.drives.specs.State.{mayCount, inAt, setAt, howMany};
+ghost use Rattle.drives.specs.State.{mostDrives, mayCount, inAt, setAt, howMany};
 
 // The most drives that there may be.
 const MOST: usize = 32;
@@ -14,7 +14,7 @@ const MOST: usize = 32;
 #[derive(Clone, Copy)]
 pub struct Drives {
     count: u8,
-    present: [bool; 32],
+    present: [bool; MOST],
 }
 
 // How many flags are set.
@@ -60,7 +60,7 @@ fn how_many_below(flags: &[bool], end: usize) -> usize
 impl Drives {
     // So many drives, all of them in; none where there may not be so many.
     pub fn new(count: u8) -> Option<Drives>
-        ensures { λ r. ⌜ BySome r (mayCount count ≡ false) (λ s. (mayCount count ≡ true) × (s .count ≡ count) × (s .present ≡ replicate 32 true)) ⌝ }
+        ensures { λ r. ⌜ BySome r (mayCount count ≡ false) (λ s. (mayCount count ≡ true) × (s .count ≡ count) × (s .present ≡ replicate mostDrives true)) ⌝ }
     {
         if count < 2 || count as usize > MOST {
             return None;

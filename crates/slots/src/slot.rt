@@ -129,7 +129,7 @@ pub fn read(slot: &[u8], object: u8, drive: u8) -> Option<Held<'_>>
 }
 
 // What stands before a piece, in bytes.
-fn header_bytes(object: u8, drive: u8, version: u64, len: u32) -> [u8; 15]
+fn header_bytes(object: u8, drive: u8, version: u64, len: u32) -> [u8; HEADER]
     ensures { λ r. ⌜ r ≡ headerOf object drive version len ⌝ }
 {
     let mut bytes = [KIND, object, drive, 0, 0, 0, 0, 0, 0, 0, 0, 0, 0, 0, 0];
