@@ -36,12 +36,13 @@ filled-more head bytes at used h =
       ∙ ap (λ t. bytes ++ t) (replicate-more (at - used) 0 ∙ ap (λ k. replicate k 0) (omega arith)))
 
 -- Zeros up to the end of the rows make the frame whole.
-pub filled : (need : ℕ) (bytes : List ℕ) (at : ℕ) → 0 < need → (4 + length bytes + (need - 1)) / need * need ≤ at → (4 + length bytes ≤ (4 + length bytes + (need - 1)) / need * need → at ≤ (4 + length bytes + (need - 1)) / need * need)
+pub filled : (need : ℕ) (bytes : List ℕ) (at size : ℕ) → 0 < need → size ≡ rowsFor need (length bytes) * need → size ≤ at → (4 + length bytes ≤ size → at ≤ size)
     → lengthBytes (length bytes) ++ (bytes ++ replicate (at - (4 + length bytes)) 0) ≡ framed need bytes
-unfolding framed rowsFor
-filled need bytes at h low high =
+unfolding framed
+filled need bytes at size h is low high =
     let e = rows-hold need (length bytes) h .0 in
-    ap (λ k. lengthBytes (length bytes) ++ (bytes ++ replicate (k - (4 + length bytes)) 0)) (omega (arith, high e))
+    let inside : 4 + length bytes ≤ size = omega arith in
+    ap (λ k. lengthBytes (length bytes) ++ (bytes ++ replicate (k - (4 + length bytes)) 0)) (omega (arith, high inside))
 
 -- The number of rows, as the code works it out from the length of the frame.
 pub rows-of : (need : ℕ) (bytes flat : List ℕ) (n rows : ℕ) → 0 < need → flat ≡ framed need bytes → n ≡ length flat → rows ≡ n / need → rows ≡ rowsFor need (length bytes)

@@ -12,6 +12,7 @@ ghost use Rattle.std.specs.shelf.Lists.{All};
 use crate::errors::PieceError;
 use crate::errors::PieceErrorFromAlloc;
 use crate::making::MAX;
+use crate::making::framed_size;
 use std::alloc::Global;
 
 // The object whose rows these are.
@@ -23,10 +24,10 @@ pub fn read(heap: Global, need: usize, flat: &[u8]) -> Result<Vec<u8>, PieceErro
     if length > MAX {
         return Err(PieceError::LengthTooLarge);
     }
-    let used = 4 + length;
-    if flat.len() != (used + (need - 1)) / need * need {
+    if flat.len() != framed_size(need, length) {
         return Err(PieceError::WrongRowCount);
     }
+    let used = 4 + length;
     if !all_zeros(&flat[used..]) {
         return Err(PieceError::NotZeroFilled);
     }
