@@ -45,7 +45,11 @@ fn length_in(flat: &[u8]) -> usize
 fn byte_at(flat: &[u8], place: usize) -> usize
     ensures { λ r. ⌜ r ≡ getD (now (flat .entry)) place 0 ⌝ ∗ ⌜ r < 256 ⌝ }
 {
-    if place < flat.len() { flat[place] as usize } else { 0 }
+    if place < flat.len() {
+        flat[place] as usize
+    } else {
+        0
+    }
 }
 
 fn all_zeros(bytes: &[u8]) -> bool

@@ -24,17 +24,19 @@ returns-then-flat-framed-size c =
 
 pub returns-then-not-all-zeros : need.returns-then-not-all-zeros
 returns-then-not-all-zeros c =
-    let e = c .length-in-length .ensures in
-    (long-is (c .args .need) (c .length-in-length .result) (c .framed-size .result) (c .args .flat .now) e (omega arith) (c .framed-size .ensures .is) (c .if-flat-framed-size .left),
-     λ z. c .if-not-all-zeros .ensures tt (subst (All IsZero) (sym (rest-is (c .length-in-length .result) (c .args .flat .now) e)) z))
+    let e = c .length-in-length .ensures in (
+      long-is (c .args .need) (c .length-in-length .result) (c .framed-size .result) (c .args .flat .now) e (omega arith) (c .framed-size .ensures .is) (c .if-flat-framed-size .left),
+      λ z. c .if-not-all-zeros .ensures tt (subst (All IsZero) (sym (rest-is (c .length-in-length .result) (c .args .flat .now) e)) z),
+    )
 
 pub returns-in-Break-from-slice : need.returns-in-Break-from-slice
 returns-in-Break-from-slice c =
     let e = c .length-in-length .ensures in
     let p = err-from-errBy (c .from-residual .result) (c .from-residual .ensures .1) in
-    rw (p .1, p .2)
-      (long-is (c .args .need) (c .length-in-length .result) (c .framed-size .result) (c .args .flat .now) e (omega arith) (c .framed-size .ensures .is) (c .if-flat-framed-size .left),
-       subst (All IsZero) (rest-is (c .length-in-length .result) (c .args .flat .now) e) (c .if-not-all-zeros .ensures tt))
+    rw (p .1, p .2) (
+      long-is (c .args .need) (c .length-in-length .result) (c .framed-size .result) (c .args .flat .now) e (omega arith) (c .framed-size .ensures .is) (c .if-flat-framed-size .left),
+      subst (All IsZero) (rest-is (c .length-in-length .result) (c .args .flat .now) e) (c .if-not-all-zeros .ensures tt),
+    )
 
 pub returns : need.returns
 returns c =
@@ -42,4 +44,5 @@ returns c =
     record {
       long = long-is (c .args .need) (c .length-in-length .result) (c .framed-size .result) (c .args .flat .now) e (omega arith) (c .framed-size .ensures .is) (c .if-flat-framed-size .left);
       filled = subst (All IsZero) (rest-is (c .length-in-length .result) (c .args .flat .now) e) (c .if-not-all-zeros .ensures tt);
-      object-is = c .in-Continue-from-slice .ensures tt .made .0 ∙ ap (λ k. take k (drop 4 (c .args .flat .now))) (omega arith) }
+      object-is = c .in-Continue-from-slice .ensures tt .made .0 ∙ ap (λ k. take k (drop 4 (c .args .flat .now))) (omega arith);
+    }
