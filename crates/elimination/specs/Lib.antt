@@ -1,0 +1,3 @@
+pub mod Polynomial
+pub mod Matrix
+pub mod Interpolation

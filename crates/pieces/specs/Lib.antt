@@ -1,0 +1,5 @@
+pub mod Given
+pub mod Outcomes
+pub mod Refusals
+pub mod Rows
+pub mod Unsolved
