@@ -1,11 +1,23 @@
-// The keeper's steps: what is told, what is to be done outside, and the state afterwards.
+// The keeper's steps: what is told, what is to be done outside, and the state afterwards; the table of all objects, and the keeper's file.
+mod calls;
 mod clearing;
 mod content;
+mod file;
 mod found;
+mod keeper;
+mod page;
 mod placing;
 mod settling;
+mod table;
 pub mod object;
 pub mod refusal;
 pub mod readings;
 pub mod steps;
 pub mod writing;
+
+pub use file::decode;
+pub use file::encode;
+pub use file::file_reads;
+pub use page::Page;
+pub use refusal::number_of;
+pub use table::Keeper;
