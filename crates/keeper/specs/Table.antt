@@ -79,6 +79,11 @@ countedOf unsure = None
 countedOf (counts v) = Some v
 countedOf (writing v w c) = None
 
+-- And what is known where a version counts, and where none is sure.
+abbrev pub knowingOf : Option ℕ → Knowledge
+knowingOf None = unsure
+knowingOf (Some v) = counts v
+
 -- Of so many drives, so many may be needed.
 abbrev pub mayNeed : (drives need : ℕ) → Bool
 mayNeed n need = ltb 0 need && ltb need n
@@ -104,3 +109,19 @@ pub record Up (ds : Drives) (need : ℕ) (bytes : List ℕ) (k : Keeper) : Type 
   pub known : knowledge k ≡ replicate objects unsure
   pub taken : comingUp (ds .count) need bytes ≡ Ok (k .number, barsOf k)
   pub next : k .next ≡ k .number
+
+-- An object's state that was handed back stands in the table; what is known of every other object, and its bar, stand as they stood.
+pub record Stands (before after : Keeper) (o : ℕ) (s : State) : Type 0 where
+  pub there : stateAt after o ≡ s
+  pub others : (p : ℕ) → (p ≡ o → ⊥) → (stateAt after p .known ≡ stateAt before p .known) × (stateAt after p .bar ≡ stateAt before p .bar)
+
+abbrev pub TableStands : Type 0
+TableStands = (before after : Keeper) (o : ℕ) (s : State) → o < objects → Accepted before after o s → Stands before after o s
+
+-- What a step leaves of the table while its effects are done: every other object's state.
+abbrev pub OthersStand : Type 0
+OthersStand = (before after : Keeper) (o p : ℕ) → (p ≡ o → ⊥) → Lent before after o → stateAt after p ≡ stateAt before p
+
+pub record Table : Type 0 where
+  pub stands : TableStands
+  pub others : OthersStand

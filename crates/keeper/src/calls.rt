@@ -37,7 +37,18 @@ impl Keeper {
         if object >= OBJECTS as u64 {
             return steps::refuse(heap, state, Refusal::NoSuch);
         }
-        placing::write(heap, object as u8, self.need, self.drives.flags(), state, drive.min(255) as u8, entries)
+        let Some(drive) = self.drive_of(drive) else {
+            return steps::refuse(heap, state, Refusal::NoSuch);
+        };
+        placing::write(
+            heap,
+            object as u8,
+            self.need,
+            self.drives.flags(),
+            state,
+            drive,
+            entries,
+        )
     }
 
     // Finishes a writing. `entries` are those of all drives that are in.
@@ -61,7 +72,14 @@ impl Keeper {
         if object >= OBJECTS as u64 {
             return steps::refuse(heap, state, Refusal::NoSuch);
         }
-        placing::read(heap, object as u8, self.need, self.drives.flags(), state, entries)
+        placing::read(
+            heap,
+            object as u8,
+            self.need,
+            self.drives.flags(),
+            state,
+            entries,
+        )
     }
 
     // Tidies an object that counts a version on a drive that is in. `entries` are the drive's.
@@ -73,7 +91,10 @@ impl Keeper {
         if object >= OBJECTS as u64 {
             return steps::refuse(heap, state, Refusal::NoSuch);
         }
-        steps::tidy(heap, self.need, self.drives.flags(), state, drive.min(255) as u8, entries)
+        let Some(drive) = self.drive_of(drive) else {
+            return steps::refuse(heap, state, Refusal::NoSuch);
+        };
+        steps::tidy(heap, self.need, self.drives.flags(), state, drive, entries)
     }
 
     // Sweeps an object on a drive that is in, at any time. `entries` are the drive's.
@@ -85,7 +106,10 @@ impl Keeper {
         if object >= OBJECTS as u64 {
             return steps::refuse(heap, state, Refusal::NoSuch);
         }
-        steps::sweep(heap, self.need, self.drives.flags(), state, drive.min(255) as u8, entries)
+        let Some(drive) = self.drive_of(drive) else {
+            return steps::refuse(heap, state, Refusal::NoSuch);
+        };
+        steps::sweep(heap, self.need, self.drives.flags(), state, drive, entries)
     }
 
     // Mends an object that counts a version on a drive that is in. `entries` are the drive's, and enough others of that version.
@@ -97,7 +121,18 @@ impl Keeper {
         if object >= OBJECTS as u64 {
             return steps::refuse(heap, state, Refusal::NoSuch);
         }
-        placing::mend(heap, object as u8, self.need, self.drives.flags(), state, drive.min(255) as u8, entries)
+        let Some(drive) = self.drive_of(drive) else {
+            return steps::refuse(heap, state, Refusal::NoSuch);
+        };
+        placing::mend(
+            heap,
+            object as u8,
+            self.need,
+            self.drives.flags(),
+            state,
+            drive,
+            entries,
+        )
     }
 
     // Gives up an unfinished writing.
@@ -121,6 +156,13 @@ impl Keeper {
         if object >= OBJECTS as u64 {
             return steps::refuse(heap, state, Refusal::NoSuch);
         }
-        settling::settle(heap, object as u8, self.need, self.drives.flags(), state, entries)
+        settling::settle(
+            heap,
+            object as u8,
+            self.need,
+            self.drives.flags(),
+            state,
+            entries,
+        )
     }
 }

@@ -19,7 +19,9 @@ use std::alloc::Global;
 
 // A number in bytes; its sum's bytes; and how many bytes a file has.
 const WORD: usize = 8;
+
 const SUM: usize = 4;
+
 const FILE: usize = WORD + OBJECTS * WORD + SUM;
 
 // All that the sum is of.
@@ -96,7 +98,10 @@ pub fn decode(heap: Global, bytes: &[u8]) -> Result<Page, Refusal>
         return Err(Refusal::BadFile);
     }
     match read_bars(heap, bytes) {
-        Ok(bars) => Ok(Page { number: word_at(bytes, 0), bars }),
+        Ok(bars) => Ok(Page {
+            number: word_at(bytes, 0),
+            bars,
+        }),
         Err(_) => Err(Refusal::NoMemory),
     }
 }

@@ -4,8 +4,8 @@ ghost use mathlib.Core.List.{map};
 ghost use mathlib.Core.Logic.{_⊎_};
 ghost use mathlib.Core.Path.{_≡_};
 ghost use Prim.Native.Nat.{_<_};
-ghost use lib.Dec.{ltb};
-ghost use lib.ListN.{getD, set, replicate};
+ghost use lib.Dec.{leb, ltb};
+ghost use lib.ListN.{length, getD, set, replicate};
 ghost use Rattle.std.specs.Of.Vec.{vec-items, vec-len};
 ghost use Rattle.std.specs.Options.{Cases as BySome};
 ghost use Rattle.std.specs.Results.{Cases};
@@ -15,7 +15,7 @@ ghost use Rattle.drives.specs.State.{mayCount, setAt};
 ghost use Rattle.keeper.specs.File.{fileOf};
 ghost use Rattle.keeper.specs.Object.{unsure, counts, done, refused};
 ghost use Rattle.keeper.specs.Shown.{knownOf, stateOf, replyOf};
-ghost use Rattle.keeper.specs.Table.{knowledge, barsOf, stateAt, Lent, Accepted, Moved, countedOf, mayNeed, First, comingUp, Up};
+ghost use Rattle.keeper.specs.Table.{knowledge, barsOf, stateAt, Lent, Accepted, Moved, countedOf, knowingOf, flagsOf, mayNeed, First, comingUp, Up, Table};
 ghost use Rattle.keeper.specs.declared.refusal.Refusal.the-variants.{NoSuch, NoMemory};
 use crate::file::decode;
 use crate::file::encode;
@@ -31,24 +31,23 @@ use std::alloc::AllocError;
 use std::alloc::Global;
 use std::mem::replace;
 
-// For each object that it counts no version.
-fn all_none(heap: Global) -> Result<Vec<Known>, AllocError>
-    ensures { λ r. ⌜ made r (λ v. (map knownOf (vec-items v) ≡ replicate 256 (counts 0)) × (vec-len v ≡ 256)) ⌝ }
+// What is known where a version counts, and where none is sure.
+fn known_by(version: Option<u64>) -> Known
+    ensures { λ r. ⌜ knownOf r ≡ knowingOf version ⌝ }
 {
-    let mut known = Vec::with_capacity(heap, OBJECTS)?;
-    for _object in 0..OBJECTS {
-        known.push(Known::Counts(0))?;
+    match version {
+        Some(version) => Known::Counts(version),
+        None => Known::Unsure,
     }
-    Ok(known)
 }
 
-// For each object that it is unsure.
-fn all_unsure(heap: Global) -> Result<Vec<Known>, AllocError>
-    ensures { λ r. ⌜ made r (λ v. (map knownOf (vec-items v) ≡ replicate 256 unsure) × (vec-len v ≡ 256)) ⌝ }
+// The same of each object.
+fn all_known(heap: Global, version: Option<u64>) -> Result<Vec<Known>, AllocError>
+    ensures { λ r. ⌜ made r (λ v. (map knownOf (vec-items v) ≡ replicate 256 (knowingOf version)) × (vec-len v ≡ 256)) ⌝ }
 {
     let mut known = Vec::with_capacity(heap, OBJECTS)?;
     for _object in 0..OBJECTS {
-        known.push(Known::Unsure)?;
+        known.push(known_by(version))?;
     }
     Ok(known)
 }
@@ -101,7 +100,11 @@ fn put_bar(bars: &mut Vec<u64>, at: usize, bar: u64)
 fn bar_at(bars: &[u64], at: u64) -> u64
     ensures { λ r. ⌜ r ≡ getD (now (bars .entry)) at 0 ⌝ }
 {
-    if at < bars.len() as u64 { bars[at as usize] } else { 0 }
+    if at < bars.len() as u64 {
+        bars[at as usize]
+    } else {
+        0
+    }
 }
 
 // The version that an object counts, if that is known.
@@ -114,11 +117,15 @@ fn counted_of(known: &Known) -> Option<u64>
     }
 }
 
-// Drive numbers past 255 are of no drive.
+// The answer to a change of a drive.
 fn answer(is_done: bool) -> Answer
     ensures { λ r. ⌜ replyOf r ≡ cond «is_done» done (refused NoSuch) ⌝ }
 {
-    if is_done { Answer::Done } else { Answer::Refused(Refusal::NoSuch) }
+    if is_done {
+        Answer::Done
+    } else {
+        Answer::Refused(Refusal::NoSuch)
+    }
 }
 
 impl Keeper {
@@ -132,9 +139,16 @@ impl Keeper {
         let Some(drives) = Drives::new(drives) else {
             return Ok(None);
         };
-        let known = all_none(heap)?;
+        let known = all_known(heap, Some(0))?;
         let bars = no_bars(heap)?;
-        Ok(Some(Keeper { need, drives, known, bars, next: 1, number: 1 }))
+        Ok(Some(Keeper {
+            need,
+            drives,
+            known,
+            bars,
+            next: 1,
+            number: 1,
+        }))
     }
 
     // Coming up with a file: all objects are unsure, and the next number is the file's.
@@ -148,8 +162,15 @@ impl Keeper {
             Ok(page) => page,
             Err(why) => return Err(why),
         };
-        match all_unsure(heap) {
-            Ok(known) => Ok(Keeper { need, drives, known, bars, next: number, number }),
+        match all_known(heap, None) {
+            Ok(known) => Ok(Keeper {
+                need,
+                drives,
+                known,
+                bars,
+                next: number,
+                number,
+            }),
             Err(_) => Err(Refusal::NoMemory),
         }
     }
@@ -206,6 +227,17 @@ impl Keeper {
         answer(is_done)
     }
 
+    // The drive of a number; none where there is no such drive.
+    pub(crate) fn drive_of(&self, drive: u64) -> Option<u8>
+        ensures { λ r. ⌜ BySome r (leb (length (flagsOf (now (self .entry) .drives))) drive ≡ true) (λ d. d ≡ drive) ⌝ }
+    {
+        if drive < self.drives.count() as u64 {
+            Some(drive as u8)
+        } else {
+            None
+        }
+    }
+
     // Takes an object's state out of the table; there it stands as unsure meanwhile.
     pub(crate) fn lend(&mut self, object: u64) -> Object
         ensures state { λ r. ⌜ stateOf r ≡ stateAt (now (self .entry)) object ⌝ }
@@ -213,7 +245,12 @@ impl Keeper {
     {
         let known = take_known(&mut self.known, object);
         let bar = bar_at(self.bars.as_slice(), object);
-        Object { known, bar, next: self.next, number: self.number }
+        Object {
+            known,
+            bar,
+            next: self.next,
+            number: self.number,
+        }
     }
 
     // Hands an object's state back, once a step's effects are done. Nothing where there is no such object.
@@ -223,7 +260,12 @@ impl Keeper {
         if object >= OBJECTS as u64 {
             return;
         }
-        let Object { known, bar, next, number } = state;
+        let Object {
+            known,
+            bar,
+            next,
+            number,
+        } = state;
         put_known(&mut self.known, object as usize, known);
         put_bar(&mut self.bars, object as usize, bar);
         self.next = next;
@@ -231,11 +273,24 @@ impl Keeper {
     }
 
     // The file's bytes with this number, and with this bar for the object, all other bars as they are.
-    pub fn file(&self, heap: Global, object: u8, number: u64, bar: u64) -> Result<Vec<u8>, AllocError>
+    pub fn file(
+        &self,
+        heap: Global,
+        object: u8,
+        number: u64,
+        bar: u64,
+    ) -> Result<Vec<u8>, AllocError>
         ensures { λ r. ⌜ made r (λ v. vec-items v ≡ fileOf number (set (barsOf (now (self .entry))) object bar)) ⌝ }
     {
         let mut bars = Vec::from_slice(heap, self.bars.as_slice())?;
         put_bar(&mut bars, object as usize, bar);
         encode(heap, number, bars.as_slice())
     }
+}
+
+// A state that was handed back stands in the table, and no step touches another object there; as a contract: without its proof the crate isn't proved.
+pub fn table_stands() -> u8
+    ensures { λ _. ⌜ Table ⌝ }
+{
+    0
 }
