@@ -21,25 +21,25 @@ mul-left-comm a b c ha hb hc = cc (laws.mul-assoc a b c ha hb hc, laws.mul-assoc
 
 -- A combination of two rows added, one of them so many times, is that of their combinations.
 pub combine-add :
-  (zs : List ℕ) (f g h : ℕ → ℕ) (s : ℕ) → Bytes zs → IsByte s → ((t : ℕ) → IsByte (g t)) →
-  ((t : ℕ) → t < length zs → h t ≡ add (f t) (mul s (g t))) → combine zs h ≡ add (combine zs f) (mul s (combine zs g))
+    (zs : List ℕ) (f g h : ℕ → ℕ) (s : ℕ) → Bytes zs → IsByte s → ((t : ℕ) → IsByte (g t)) →
+    ((t : ℕ) → t < length zs → h t ≡ add (f t) (mul s (g t))) → combine zs h ≡ add (combine zs f) (mul s (combine zs g))
 unfolding combine
 combine-add [] f g h s b hs hg e = cc (laws.mul-zero s, laws.add-self 0)
 combine-add (z ∷ zs) f g h s b hs hg e =
     let head : h 0 ≡ add (f 0) (mul s (g 0)) = e 0 (omega arith) in
     let G : ℕ = combine zs (λ t. g (suc t)) in
     let more : combine zs (λ t. h (suc t)) ≡ add (combine zs (λ t. f (suc t))) (mul s G) =
-      combine-add zs (λ t. f (suc t)) (λ t. g (suc t)) (λ t. h (suc t)) s (b .1) hs (λ t. hg (suc t)) (λ t l. e (suc t) (omega arith)) in
+    combine-add zs (λ t. f (suc t)) (λ t. g (suc t)) (λ t. h (suc t)) s (b .1) hs (λ t. hg (suc t)) (λ t l. e (suc t) (omega arith)) in
     let product : mul z (add (f 0) (mul s (g 0))) ≡ add (mul z (f 0)) (mul s (mul z (g 0))) =
-      cc (laws.mul-add z (f 0) (mul s (g 0)), mul-left-comm z s (g 0) (b .0) hs (hg 0)) in
+    cc (laws.mul-add z (f 0) (mul s (g 0)), mul-left-comm z s (g 0) (b .0) hs (hg 0)) in
     let whole : mul s (add (mul z (g 0)) G) ≡ add (mul s (mul z (g 0))) (mul s G) = laws.mul-add s (mul z (g 0)) G in
-    cc
-      ( head
-      , more
-      , product
-      , whole
-      , laws.add-swap (mul z (f 0)) (mul s (mul z (g 0))) (combine zs (λ t. f (suc t))) (mul s G)
-      )
+    cc (
+      head,
+      more,
+      product,
+      whole,
+      laws.add-swap (mul z (f 0)) (mul s (mul z (g 0))) (combine zs (λ t. f (suc t))) (mul s G),
+    )
 
 -- Where rows are the same, so are their combinations.
 pub combine-same : (zs : List ℕ) (f g : ℕ → ℕ) → ((t : ℕ) → t < length zs → f t ≡ g t) → combine zs f ≡ combine zs g
@@ -60,8 +60,8 @@ combine-zero (z ∷ zs) f e =
 
 -- A row of the unit matrix picks a coefficient.
 pub combine-unit :
-  (zs : List ℕ) (f : ℕ → ℕ) (i : ℕ) → Bytes zs → i < length zs → f i ≡ 1 → ((t : ℕ) → t < length zs → (i ≡ t → ⊥) → f t ≡ 0) →
-  combine zs f ≡ getD zs i 0
+    (zs : List ℕ) (f : ℕ → ℕ) (i : ℕ) → Bytes zs → i < length zs → f i ≡ 1 → ((t : ℕ) → t < length zs → (i ≡ t → ⊥) → f t ≡ 0) →
+    combine zs f ≡ getD zs i 0
 unfolding combine
 combine-unit [] f i b l one none = absurd (omega arith)
 combine-unit (z ∷ zs) f zero b l one none =
@@ -70,7 +70,7 @@ combine-unit (z ∷ zs) f zero b l one none =
 combine-unit (z ∷ zs) f (suc i) b l one none =
     let head : f 0 ≡ 0 = none 0 (omega arith) (λ e. omega arith) in
     let more : combine zs (λ t. f (suc t)) ≡ getD zs i 0 =
-      combine-unit zs (λ t. f (suc t)) i (b .1) (omega arith) one (λ t l′ ne. none (suc t) (omega arith) (λ e. ne (omega arith))) in
+    combine-unit zs (λ t. f (suc t)) i (b .1) (omega arith) one (λ t l′ ne. none (suc t) (omega arith) (λ e. ne (omega arith))) in
     cc (head, more, laws.mul-zero z, laws.zero-add (combine zs (λ t. f (suc t))) (combine-byte zs (λ t. f (suc t))))
 
 -- Coefficients with, after so many zeros, a 1.
@@ -98,7 +98,7 @@ withOne-some [] (suc r) h = withOne-some [] r (h .1)
 withOne-some (z ∷ zs) r h = withOne-some zs r (h .1)
 
 pub withOne-combine :
-  (zs : List ℕ) (r : ℕ) (f : ℕ → ℕ) → IsByte (f (length zs + r)) → combine (withOne zs r) f ≡ add (combine zs f) (f (length zs + r))
+    (zs : List ℕ) (r : ℕ) (f : ℕ → ℕ) → IsByte (f (length zs + r)) → combine (withOne zs r) f ≡ add (combine zs f) (f (length zs + r))
 unfolding withOne combine
 withOne-combine [] zero f b = cc (laws.one-mul (f 0) b, laws.add-zero (f 0) b, laws.zero-add (f 0) b)
 withOne-combine [] (suc r) f b =
@@ -110,7 +110,7 @@ withOne-combine (z ∷ zs) r f b =
     let at : suc (length zs) + r ≡ suc (length zs + r) = omega arith in
     let b′ : IsByte (f (suc (length zs + r))) = rw at at b in
     let more : combine (withOne zs r) (λ t. f (suc t)) ≡ add (combine zs (λ t. f (suc t))) (f (suc (length zs + r))) =
-      withOne-combine zs r (λ t. f (suc t)) b′ in
+    withOne-combine zs r (λ t. f (suc t)) b′ in
     cc (more, laws.add-assoc (mul z (f 0)) (combine zs (λ t. f (suc t))) (f (suc (length zs + r))))
 
 pub power-byte : (x t : ℕ) → IsByte (power x t)

@@ -3,3 +3,5 @@ pub mod Combine
 pub mod Steps
 pub mod Blocks
 pub mod Points
+pub mod Solution
+pub mod Cells

@@ -41,8 +41,8 @@ pub record Interpolates (points values v : List ℕ) : Type 0 where
   pub long : length v ≡ length values
   pub bytes : Bytes v
   pub at :
-    (r i : ℕ) → r < widthOf points values → i < length points →
-    value (take (length points) (drop (r * length points) v)) (getD points i 0) ≡ getD values (i * widthOf points values + r) 0
+      (r i : ℕ) → r < widthOf points values → i < length points →
+      value (take (length points) (drop (r * length points) v)) (getD points i 0) ≡ getD values (i * widthOf points values + r) 0
 
 -- Nothing was to be refused; `v` has the values, and nothing else of bytes has.
 pub record Solved (points values v : List ℕ) : Type 0 where

@@ -4,6 +4,8 @@ use mathlib.Core.Path.{_≡_}
 use mathlib.Core.List.{List, [], _∷_, _++_, map}
 use Prim.Native.Nat.{ℕ, zero, suc, _+_, _*_, _<_, _≤_}
 use Rattle.std.specs.Iters.{counting}
+use Rattle.std.specs.declared.option.Option.{Option}
+use Rattle.std.specs.declared.option.Option.the-variants.{Some, None}
 use Rattle.std.specs.shelf.Lists.{length, getD, take, drop, All}
 use Rattle.bytes.specs.Byte.{add, mul, inv}
 use Rattle.elimination.specs.Polynomial.{Bytes}
@@ -37,6 +39,10 @@ matrixOf points values width = blocks (rowOf points values width) (length points
 abbrev pub column : (k w : ℕ) (m : List ℕ) (c : ℕ) → List ℕ
 column k w m c = map (λ i. cell w m i c) (counting 0 k)
 
+-- What stands in the columns past the first k of a matrix with k rows, column after column.
+abbrev pub furtherColumns : (k width : ℕ) (m : List ℕ) → List ℕ
+furtherColumns k width m = blocks (λ r. column k (k + width) m (k + r)) width
+
 -- The sum of the products of coefficients with what stands at their places.
 unfoldable pub combine : List ℕ → (ℕ → ℕ) → ℕ
 combine [] f = 0
@@ -57,6 +63,7 @@ pub record Independent (k w : ℕ) (m : List ℕ) : Type 0 where
 -- The first q columns are those of the unit matrix; and what vanishes on all rows of this matrix vanishes on all rows of the first.
 pub record Reduced (k w q : ℕ) (first m : List ℕ) : Type 0 where
   pub long : length m ≡ k * w
+  pub bytes : Bytes m
   pub one : (i : ℕ) → i < q → cell w m i i ≡ 1
   pub none : (i t : ℕ) → i < k → t < q → (i ≡ t → ⊥) → cell w m i t ≡ 0
   pub kept : (zs : List ℕ) → Bytes zs → length zs ≤ w → Vanishes k w m zs → Vanishes k w first zs
@@ -67,13 +74,17 @@ pub record RowAdded (w i factor : ℕ) (source m m′ : List ℕ) : Type 0 where
   pub there : (t : ℕ) → t < w → cell w m′ i t ≡ add (cell w m i t) (mul factor (getD source t 0))
   pub elsewhere : (j t : ℕ) → t < w → (j ≡ i → ⊥) → cell w m′ j t ≡ cell w m j t
 
+-- What a search for a pivot of column q finds: the first row from row q on whose entry isn't 0, or that there is none.
+abbrev pub Found : (k w q : ℕ) (m : List ℕ) → Option ℕ → Type 0
+Found k w q m None = (i : ℕ) → q ≤ i → i < k → cell w m i q ≡ 0
+Found k w q m (Some p) = (q ≤ p) × (p < k) × (1 ≤ cell w m p q)
+
 -- What row q gets row p times, so that its entry in column q becomes 1.
 abbrev pub leading : (w q p : ℕ) (m : List ℕ) → ℕ
 leading w q p m = mul (add 1 (cell w m q q)) (inv (cell w m p q))
 
 -- Row q has got row p added, so that its entry in column q is 1.
 pub record Led (w q p : ℕ) (m m′ : List ℕ) : Type 0 where
-  pub bytes : Bytes m
   pub long : length m′ ≡ length m
   pub there : (t : ℕ) → t < w → cell w m′ q t ≡ add (cell w m q t) (mul (leading w q p m) (cell w m p t))
   pub elsewhere : (j t : ℕ) → t < w → (j ≡ q → ⊥) → cell w m′ j t ≡ cell w m j t
