@@ -1,6 +1,6 @@
 -- From points and values that stand one after the other to the rows behind pieces.
 use mathlib.Core.Path.{_≡_, refl, sym, ap, ap₂, subst, _∙_}
-use mathlib.Core.Logic.{_⊎_, inl, inr}
+use mathlib.Core.Logic.{inl, inr}
 use mathlib.Core.List.{List, [], _∷_, _++_, map, List·Memᴰ, List·Memᴰ·head, List·Memᴰ·tail, List·Memᴰ·cases-cons, List·Memᴰ·not-nil}
 use Prim.Native.Nat.{ℕ, zero, suc, _+_, _*_, _/_, _%_, _≤_, _<_}
 use native.Mathlib.Omega.{arith}
@@ -130,16 +130,13 @@ two-or-three true k e h = omega arith
 two-or-three false k e h = omega arith
 
 -- A refusal of interpolation is a refusal of working out.
-pub not-found : (need : ℕ) (ps : List Piece) (pts vals : List ℕ) (e : Unsolved) → OneLength need ps → pts ≡ map (λ p. p .drive + 1) ps → vals ≡ whole ps → (number e ≡ reason pts vals) ⊎ (number e ≡ 3) → NotWorked need ps (unsolved e)
+pub not-found : (need : ℕ) (ps : List Piece) (pts vals : List ℕ) (e : Unsolved) → OneLength need ps → pts ≡ map (λ p. p .drive + 1) ps → vals ≡ whole ps → number e ≡ reason pts vals → NotWorked need ps (unsolved e)
 not-found need ps pts vals no.NoMemory one pe ve h = one
-not-found need ps pts vals no.SamePoint one pe ve (inl h) =
+not-found need ps pts vals no.SamePoint one pe ve h =
     (one, λ d. unlike (repeated pts) (h ∙ reason-is need ps pts vals one pe ve) (distinct-repeated pts (subst Distinct (sym (pe ∙ points-are ps)) (distinct-up (drives ps) d))))
   where
     unlike : (b : Bool) → _≡_ {A = ℕ} 2 (cond b 2 3) → b ≡ false → ⊥
     unlike true e f = both-ways true f refl
     unlike false e f = omega arith
-not-found need ps pts vals no.SamePoint one pe ve (inr h) = absurd (omega arith)
-not-found need ps pts vals no.NoPoints one pe ve (inl h) = absurd (two-or-three (repeated pts) 0 (h ∙ reason-is need ps pts vals one pe ve) (lit< tt))
-not-found need ps pts vals no.NoPoints one pe ve (inr h) = absurd (omega arith)
-not-found need ps pts vals no.Uneven one pe ve (inl h) = absurd (two-or-three (repeated pts) 1 (h ∙ reason-is need ps pts vals one pe ve) (lit< tt))
-not-found need ps pts vals no.Uneven one pe ve (inr h) = absurd (omega arith)
+not-found need ps pts vals no.NoPoints one pe ve h = absurd (two-or-three (repeated pts) 0 (h ∙ reason-is need ps pts vals one pe ve) (lit< tt))
+not-found need ps pts vals no.Uneven one pe ve h = absurd (two-or-three (repeated pts) 1 (h ∙ reason-is need ps pts vals one pe ve) (lit< tt))

@@ -186,7 +186,7 @@ first-made need [] object h made = absurd (omega arith)
 first-made need (p ∷ ps) object h made = (made .0 .need-is, made .0 .length-is)
 
 pub made-work : MadeWork
-made-work need ps object count apart bytes made pos =
+made-work need ps object pos count apart bytes made =
     let same = made-parts need ps object made in
     let some : 0 < length ps = omega arith in
     let first = first-made need ps object some made in

@@ -42,8 +42,8 @@ pub record Remade (need drive : ℕ) (ps : List Piece) (r : Result (Vec ℕ Glob
 -- Pieces that were made of one object for as many different drives as are needed give it back: `Worked` holds of them.
 abbrev pub MadeWork : Type 0
 MadeWork =
-    (need : ℕ) (ps : List Piece) (object : List ℕ) → length ps ≡ need → Distinct (drives ps) → Bytes object →
-    All (λ p. Made need (p .drive) object (vec-items (p .bytes))) ps → 0 < need → Worked need ps object
+    (need : ℕ) (ps : List Piece) (object : List ℕ) → 0 < need → length ps ≡ need → Distinct (drives ps) → Bytes object →
+    All (λ p. Made need (p .drive) object (vec-items (p .bytes))) ps → Worked need ps object
 
 -- Only one object has these pieces.
 abbrev pub OnlyOne : Type 0

@@ -7,9 +7,12 @@ mod solving;
 mod working;
 
 pub use errors::PieceError;
+pub use errors::PieceErrorDebug;
+pub use errors::PieceErrorEq;
 pub use errors::PieceErrorFromAlloc;
 pub use errors::PieceErrorFromRefused;
 pub use errors::PieceErrorFromUnsolved;
+pub use errors::PieceErrorPartialEq;
 pub use making::LAST;
 pub use making::MAX;
 pub use making::make;

@@ -66,12 +66,28 @@ fn evaluate(piece: &mut [u8], x: u8, need: usize, flat: &[u8])
     }
 }
 
-// Multiplies the piece by `x` and adds a column of the rows to it.
+// Multiplies the piece by `x` and adds a column of the rows to it. These are two loops, since the compiler makes only the first one wide.
 fn step(piece: &mut [u8], x: u8, need: usize, column: usize, flat: &[u8])
     requires { ⌜ column < need ⌝ ∗ ⌜ length (now flat) ≡ length (now piece) * need ⌝ }
     ensures { λ _. ⌜ ((r : ℕ) → r < length (now (piece .entry)) → getD (now (piece .exit)) r 0 ≡ add (getD (now (flat .entry)) (r * need + column) 0) (mul x (getD (now (piece .entry)) r 0))) ⌝ }
 {
+    scale(piece, x);
+    add_column(piece, need, column, flat);
+}
+
+fn scale(piece: &mut [u8], x: u8)
+    ensures { λ _. ⌜ ((r : ℕ) → r < length (now (piece .entry)) → getD (now (piece .exit)) r 0 ≡ mul x (getD (now (piece .entry)) r 0)) ⌝ }
+{
+    for value in piece.iter_mut() {
+        *value = bytes::product(x, *value);
+    }
+}
+
+fn add_column(piece: &mut [u8], need: usize, column: usize, flat: &[u8])
+    requires { ⌜ column < need ⌝ ∗ ⌜ length (now flat) ≡ length (now piece) * need ⌝ }
+    ensures { λ _. ⌜ ((r : ℕ) → r < length (now (piece .entry)) → getD (now (piece .exit)) r 0 ≡ add (getD (now (flat .entry)) (r * need + column) 0) (getD (now (piece .entry)) r 0)) ⌝ }
+{
     for (r, value) in piece.iter_mut().enumerate() {
-        *value = bytes::sum(flat[r * need + column], bytes::product(x, *value));
+        *value = bytes::sum(flat[r * need + column], *value);
     }
 }

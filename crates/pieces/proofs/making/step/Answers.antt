@@ -1,10 +1,11 @@
-use Prim.Native.Nat.{_<_}
+use mathlib.Core.Path.{_∙_, ap}
+use Prim.Native.Nat.{_+_, _*_}
 use native.Mathlib.Omega.{arith}
-use Rattle.std.proofs.shelf.Bits.{mul-add-lt}
-use lib.ListN.{length}
+use lib.ListN.{getD}
+use Rattle.bytes.specs.Byte.{add}
 use Rattle.pieces.proofs.making.step.Needs as need
 
-pub index-flat-r : need.index-flat-r
-index-flat-r c =
-    let h : c .args .column < c .args .need = omega arith in
-    omega (arith, mul-add-lt (c .loop-r .r) (c .args .need) (c .args .column) (length (c .args .piece .now)) (c .loop-r-test .taken) h)
+pub returns : need.returns
+returns c r h =
+    c .add-column .ensures r (omega arith)
+    ∙ ap (add (getD (c .args .flat .now) (r * c .args .need + c .args .column) 0)) (c .scale .ensures r h)
