@@ -1,12 +1,16 @@
--- The laws of drives: a slot's bytes are what was written to it, and every other slot is as it was.
+-- The laws of drives: what was written is read again, what was taken away isn't, and every other slot is as it was.
 -- Assumes nothing.
-use mathlib.Core.List.{List}
+use mathlib.Core.Bool.{cond}
+use mathlib.Core.List.{List, map}
 use mathlib.Core.Path.{_≡_}
-use Prim.Native.Nat.{ℕ, _<_, _≤_, _^_}
-use lib.ListN.{length}
-use Rattle.slots.specs.Layout.{pieceRoom}
-use Rattle.slots.specs.Slot.{Slot, empty, holds, readSlot, written, cleared}
-use Rattle.drives.specs.Place.{places, slotAt, withSlot}
+use Prim.Native.Nat.{ℕ, _<_, _^_}
+use lib.ListN.{length, set}
+use Rattle.std.specs.declared.result.Result.the-variants.{Ok}
+use Rattle.slots.specs.Slot.{empty, holds}
+use Rattle.drives.specs.Place.{places, slotAt, withSlot, readings}
+use Rattle.drives.specs.Rule.{namesSlot}
+use Rattle.drives.specs.Steps.{writeAnswer, afterWrite, afterTaking}
+use Rattle.drives.specs.declared.rule.Rule.{Rule}
 
 -- What stands in a slot after it was put there.
 abbrev pub SlotStands : Type 0
@@ -21,7 +25,28 @@ OthersStand =
 abbrev pub LengthStands : Type 0
 LengthStands = (bytes slot : List ℕ) (o k : ℕ) → length slot ≡ length (slotAt bytes o k) → length (withSlot bytes o k slot) ≡ length bytes
 
-pub record Drives : Type 0 where
+-- Once a piece was written, the object's readings are as they were but at its place, which holds the piece: what is read is what was written.
+abbrev pub WriteReads : Type 0
+WriteReads =
+    (bytes p : List ℕ) (o d v k : ℕ) → v < 2 ^ 64 → writeAnswer bytes o d v p ≡ Ok k → readings (afterWrite bytes o d v p) o d ≡ set (readings bytes o d) k (holds v p)
+
+-- Once pieces were taken away, what the rule names isn't there any more, and all else is read as it was.
+abbrev pub TakingReads : Type 0
+TakingReads =
+    (bytes : List ℕ) (o d : ℕ) (rule : Rule) → readings (afterTaking bytes o d rule) o d ≡ map (λ s. cond (namesSlot rule s) empty s) (readings bytes o d)
+
+-- And neither changes a byte of another object's slots.
+abbrev pub OtherObjects : Type 0
+OtherObjects =
+    (bytes p : List ℕ) (o d v o′ k′ : ℕ) (rule : Rule) → (o ≡ o′ → ⊥) → k′ < places →
+    (slotAt (afterWrite bytes o d v p) o′ k′ ≡ slotAt bytes o′ k′) × (slotAt (afterTaking bytes o d rule) o′ k′ ≡ slotAt bytes o′ k′)
+
+pub record Apart : Type 0 where
   pub stands : SlotStands
   pub others : OthersStand
   pub long : LengthStands
+
+pub record Rereading : Type 0 where
+  pub write : WriteReads
+  pub take : TakingReads
+  pub others : OtherObjects

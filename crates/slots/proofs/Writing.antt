@@ -10,8 +10,8 @@ use lib.Dec.{leb}
 use lib.ListN.{length, take, drop}
 use Rattle.std.specs.declared.option.Option.{Option}
 use Rattle.std.specs.declared.option.Option.the-variants.{Some, None}
-use Rattle.std.proofs.shelf.Lists.{append-assoc, take-at, drop-at, drop-drop, length-append}
-use Rattle.std.proofs.shelf.Tests.{leb-true, leb-false, le-leb, lt-leb, cond-true, cond-false, and-from, and-left, and-right, cases-bool}
+use Rattle.std.proofs.shelf.Lists.{append-assoc, take-at, drop-at, drop-drop, length-append, length-drop}
+use Rattle.std.proofs.shelf.Tests.{leb-true, leb-false, le-leb, lt-leb, cond-true, cond-false, and-from, and-parts, and-left, and-right, cases-bool}
 use Rattle.slots.specs.Adler.{adler}
 use Rattle.slots.specs.Layout.{pieceRoom, around, bytesOf, headerOf, bodyOf, recordOf, recordRoom, recordFor, putAt}
 use Rattle.slots.specs.Slot.{hasRoom, written}
@@ -85,3 +85,27 @@ encoded o d v sum p head tail items room eh es et e =
     let fs : sum ≡ adler body = es ∙ ap (λ h. adler (h ++ p)) eh in
     let f : items ≡ body ++ bytesOf 4 (adler body) = e ∙ ap (λ h. (h ++ p) ++ tail) eh ∙ ap (λ t. body ++ t) (et ∙ ap (λ x. bytesOf 4 x) fs) in
     ap Some f ∙ sym (cond-true (leb (length p) pieceRoom) (Some (body ++ bytesOf 4 (adler body))) None (le-leb (length p) pieceRoom room))
+
+-- How long a record is, what room means, and that a written place is as long as it was.
+pub length-record : (o d v : ℕ) (p : List ℕ) → length (recordOf o d v p) ≡ around + length p
+unfolding recordOf
+length-record o d v p =
+    let head = length-append (headerOf o d v (length p)) p in
+    length-append (bodyOf o d v p) (bytesOf 4 (adler (bodyOf o d v p))) ∙ omega arith
+
+pub room-parts : (bytes p : List ℕ) → hasRoom bytes p ≡ true → (length p ≤ pieceRoom) × (around + length p ≤ length bytes)
+room-parts bytes p t =
+    let both = and-parts (leb (length p) pieceRoom) (leb (around + length p) (length bytes)) t in
+    (leb-true (length p) pieceRoom (both .0), leb-true (around + length p) (length bytes) (both .1))
+
+pub written-there : (o d v : ℕ) (p bytes : List ℕ) → hasRoom bytes p ≡ true → written o d v p bytes ≡ recordOf o d v p ++ drop (around + length p) bytes
+unfolding written
+written-there o d v p bytes t = cond-true (hasRoom bytes p) (recordOf o d v p ++ drop (around + length p) bytes) bytes t
+
+pub length-written : (o d v : ℕ) (p bytes : List ℕ) → length (written o d v p bytes) ≡ length bytes
+length-written o d v p bytes =
+    let n = around + length p in
+    elim (cases-bool (hasRoom bytes p))
+    [ inl t ↦ (let room = room-parts bytes p t in
+      ap length (written-there o d v p bytes t) ∙ length-append (recordOf o d v p) (drop n bytes) ∙ omega (arith, length-record o d v p, length-drop n bytes))
+    | inr t ↦ ap length (sym (written-none o d v p bytes (sym t))) ]
