@@ -1,0 +1,11 @@
+pub mod Lists
+pub mod Readings
+pub mod Invariant
+pub mod Acts
+pub mod Work
+pub mod Highest
+pub mod Places
+pub mod Well
+pub mod Steps
+pub mod Runs
+pub mod Safe

