@@ -1,2 +1,3 @@
 mod Unique
 mod Trying
+mod Real

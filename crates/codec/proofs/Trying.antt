@@ -119,7 +119,7 @@ fits-decides need ps c = (
 
 pub some-works-out : RowsDetermined → SomeWorksOut
 unfolding workOutOf
-some-works-out determined need low high =
+some-works-out determined need low =
     record {
       works = λ ps c h.
           let found = first-passes (fits need ps) (contents MAX) c (in-contents MAX c (h .bytes) (h .short)) (fits-decides need ps c .1 h) in

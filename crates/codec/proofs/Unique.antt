@@ -41,7 +41,7 @@ at-points (d ∷ ds) f g e x m =
     let rest : map (λ d. f (d + 1)) ds ≡ map (λ d. g (d + 1)) ds = cc in
     elim (List·Memᴰ·cases-cons m) [ inl h ↦ ap f h ∙ here ∙ sym (ap g h) | inr h ↦ at-points ds f g rest x h ]
 
-length-values : (need rows x : ℕ) (flat : List ℕ) → length (values need rows x flat) ≡ rows
+pub length-values : (need rows x : ℕ) (flat : List ℕ) → length (values need rows x flat) ≡ rows
 unfolding values
 length-values need zero x flat = refl
 length-values need (suc rows) x flat = ap suc (length-values need rows x (drop need flat))

@@ -43,6 +43,6 @@ fits need ps c =
 unfoldable pub workOutOf : (need : ℕ) → WorkOut
 workOutOf need ps = first (fits need ps) (contents MAX)
 
--- It works out what the law says, whatever number of pieces is needed.
+-- It works out what the law says, whatever number of pieces is needed but 0.
 abbrev pub SomeWorksOut : Type 0
-SomeWorksOut = (need : ℕ) → 1 ≤ need → need ≤ LAST → WorksOut need (workOutOf need)
+SomeWorksOut = (need : ℕ) → 1 ≤ need → WorksOut need (workOutOf need)
