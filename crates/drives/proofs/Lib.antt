@@ -5,3 +5,4 @@ pub mod Standing
 pub mod Placing
 pub mod Taking
 pub mod Rereads
+pub mod Viewing

@@ -4,11 +4,13 @@ use mathlib.Core.Bool.{cond}
 use mathlib.Core.List.{List, map}
 use mathlib.Core.Path.{_≡_}
 use Prim.Native.Nat.{ℕ, _<_, _^_}
-use lib.ListN.{length, set}
+use lib.ListN.{length, getD, set}
+use Rattle.std.specs.declared.option.Option.the-variants.{Some, None}
 use Rattle.std.specs.declared.result.Result.the-variants.{Ok}
-use Rattle.slots.specs.Slot.{empty, holds}
+use Rattle.slots.specs.Slot.{Slot, empty, holds}
 use Rattle.drives.specs.Place.{places, slotAt, withSlot, readings}
 use Rattle.drives.specs.Rule.{namesSlot}
+use Rattle.drives.specs.View.{distinct, placeFor, find}
 use Rattle.drives.specs.Steps.{writeAnswer, afterWrite, afterTaking}
 use Rattle.drives.specs.declared.rule.Rule.{Rule}
 
@@ -50,3 +52,23 @@ pub record Rereading : Type 0 where
   pub write : WriteReads
   pub take : TakingReads
   pub others : OtherObjects
+
+-- What is written at the place for a version is found as that version's piece.
+abbrev pub FindsWritten : Type 0
+FindsWritten = (v k : ℕ) (p : List ℕ) (slots : List Slot) → placeFor v slots ≡ Some k → find v (set slots k (holds v p)) ≡ Some p
+
+-- No other version's piece is lost or hidden by it.
+abbrev pub KeepsOthers : Type 0
+KeepsOthers =
+    (v w k : ℕ) (p : List ℕ) (slots : List Slot) → placeFor v slots ≡ Some k → (w ≡ v → ⊥) → find w (set slots k (holds v p)) ≡ find w slots
+
+-- And there is no place only where every place has another version, no two the same: none is empty, and none a copy.
+abbrev pub OnlyFull : Type 0
+OnlyFull =
+    (v : ℕ) (slots : List Slot) → placeFor v slots ≡ None → (k : ℕ) → k < length slots →
+    (w : ℕ) × (q : List ℕ) × (getD (distinct slots) k empty ≡ holds w q) × (w ≡ v → ⊥)
+
+pub record Views : Type 0 where
+  pub finds : FindsWritten
+  pub keeps : KeepsOthers
+  pub full : OnlyFull

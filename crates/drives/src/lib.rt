@@ -8,6 +8,7 @@ mod view;
 
 pub use laws::readings_stand;
 pub use laws::slots_apart;
+pub use laws::views_stand;
 pub use layout::OBJECTS;
 pub use layout::PLACES;
 pub use layout::sizes;

@@ -1,2 +1,4 @@
-pub mod Clears
+pub mod Bridge
+pub mod Choose
 pub mod Scan
+pub mod Search

@@ -4,3 +4,4 @@ pub mod Steps
 pub mod Shown
 pub mod Rules
 pub mod Real
+pub mod Found

@@ -160,13 +160,16 @@ abbrev pub nothingToMend : State → Option ℕ → Outcome
 nothingToMend s None = refuse s NoPlace
 nothingToMend s (Some k) = refuse s CountsNone
 
-abbrev pub mending : Codec → Setup → State → ℕ → List Reading → Knowledge → Outcome
-mending C u s d rs unsure = refuse s Unsure
-mending C u s d rs (writing v w c) = refuse s BeingWritten
-mending C u s d rs (counts v) =
+abbrev pub mendTo : Codec → Setup → State → ℕ → List Reading → ℕ → Outcome
+mendTo C u s d rs v =
     unless s (not (u .isIn d)) DriveOut
     (cond (eqb v 0) (nothingToMend s (placeFor places d v rs))
     (cond (holder d v rs) (tell s (mended 0)) (remake C s d v (placeFor places d v rs) (contentOf C u v rs))))
+
+abbrev pub mending : Codec → Setup → State → ℕ → List Reading → Knowledge → Outcome
+mending C u s d rs unsure = refuse s Unsure
+mending C u s d rs (writing v w c) = refuse s BeingWritten
+mending C u s d rs (counts v) = mendTo C u s d rs v
 
 abbrev pub mend : Codec → Setup → State → ℕ → List Reading → Outcome
 mend C u s d rs = unless s (leb (u .drives) d) NoSuch (mending C u s d rs (s .known))

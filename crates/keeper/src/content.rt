@@ -36,6 +36,14 @@ fn counts_as(entries: &[Entry], version: u64, entry: &Entry) -> bool
     entry.version == version && !is_copy(entries, entry)
 }
 
+fn copied(heap: Global, bytes: &[u8]) -> Result<Vec<u8>, AllocError>
+    ensures { λ r. ⌜ made r (λ v. vec-items v ≡ now (bytes .entry)) ⌝ }
+{
+    let mut copy = Vec::with_capacity(heap, bytes.len())?;
+    copy.extend_from_slice(bytes)?;
+    Ok(copy)
+}
+
 // The pieces of a version, one from each drive that has it.
 fn pieces_of(heap: Global, entries: &[Entry], version: u64) -> Result<Vec<Piece>, AllocError>
     ensures { λ r. ⌜ made r (λ v. map pieceGiven (vec-items v) ≡ map given (piecesOf version (readingsOf (now (entries .entry))))) ⌝ }
@@ -43,7 +51,7 @@ fn pieces_of(heap: Global, entries: &[Entry], version: u64) -> Result<Vec<Piece>
     let mut chosen = Vec::new(heap);
     for entry in entries {
         if counts_as(entries, version, entry) {
-            chosen.push(Piece { drive: entry.drive, bytes: entry.piece.clone()? })?;
+            chosen.push(Piece { drive: entry.drive, bytes: copied(heap, entry.piece.as_slice())? })?;
         }
     }
     Ok(chosen)
@@ -61,7 +69,9 @@ pub fn content_of(heap: Global, need: u8, entries: &[Entry], version: u64) -> Re
     chosen.truncate(need as usize);
     match pieces::work_out(heap, need, chosen.as_slice()) {
         Ok(bytes) => Ok(Some(bytes)),
-        Err(pieces::PieceError::NoMemory) => Err(AllocError),
-        Err(_) => Ok(None),
+        Err(why) => match why {
+            pieces::PieceError::NoMemory => Err(AllocError),
+            _ => Ok(None),
+        },
     }
 }

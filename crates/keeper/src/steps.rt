@@ -8,7 +8,7 @@ ghost use Rattle.std.specs.Vec.{made};
 ghost use Rattle.keeper.specs.Rules.{names};
 ghost use Rattle.keeper.specs.Shown.{stateOf, outcomeOf, actOf, readingsOf, setupOf, Gives};
 ghost use Rattle.keeper.specs.Object.{refuse as refusal-of};
-ghost use Rattle.keeper.specs.Steps.{begin as begin-of, reserve as reserve-of, writingOn, finishTo, finish as finish-of, takeAway, tidyTo, tidy as tidy-of, sweep as sweep-of, giveUp};
+ghost use Rattle.keeper.specs.Steps.{begin as begin-of, raised as raised-of, reserve as reserve-of, writingOn, finishTo, finish as finish-of, takeAway, tidyTo, tidy as tidy-of, sweep as sweep-of, giveUp};
 use crate::object::Answer;
 use crate::clearing::Rule;
 use crate::clearing::clears;
@@ -26,7 +26,7 @@ use std::alloc::Global;
 
 const LONGEST: usize = 65_536;
 const STRIDE: u64 = 1024;
-const LAST_NUMBER: u64 = 1 << 63;
+pub const LAST_NUMBER: u64 = 1 << 63;
 
 // Nothing changes, and the caller is told why.
 pub fn refuse(heap: Global, object: Object, why: Refusal) -> Step
@@ -57,7 +57,7 @@ pub fn begin(heap: Global, object: Object, bytes: Vec<u8>) -> Step
 }
 
 // Where the file's number isn't above the next version's, it is raised before that is used.
-fn reserve(heap: Global, object: &Object) -> Result<Vec<Effect>, AllocError>
+pub fn reserve(heap: Global, object: &Object) -> Result<Vec<Effect>, AllocError>
     requires { ⌜ now object .next < 2 ^ 63 ⌝ }
     ensures { λ r. ⌜ made r (λ v. map actOf (vec-items v) ≡ reserve-of (stateOf (now (object .entry)))) ⌝ }
 {
@@ -68,13 +68,21 @@ fn reserve(heap: Global, object: &Object) -> Result<Vec<Effect>, AllocError>
     Ok(effects)
 }
 
+// The file's number once the next version's is used.
+pub fn raised(object: &Object) -> u64
+    requires { ⌜ now object .next < 2 ^ 63 ⌝ }
+    ensures { λ r. ⌜ r ≡ raised-of (stateOf (now (object .entry))) ⌝ }
+{
+    if object.number <= object.next { object.number + STRIDE } else { object.number }
+}
+
 // The object is being written, from a version to the next one, whose number is used up.
-fn written_on(object: Object, from: u64, bytes: Vec<u8>) -> Object
+pub fn written_on(object: Object, from: u64, bytes: Vec<u8>) -> Object
     requires { ⌜ object .next < 2 ^ 63 ⌝ ∗ ⌜ vec-len bytes ≤ 65536 ⌝ }
     ensures { λ r. ⌜ stateOf r ≡ writingOn (stateOf object) from (vec-items bytes) ⌝ }
 {
     let to = object.next;
-    let number = if object.number <= to { object.number + STRIDE } else { object.number };
+    let number = raised(&object);
     Object { known: Known::Writing(Writing { from, to, bytes }), bar: object.bar, next: to + 1, number }
 }
 

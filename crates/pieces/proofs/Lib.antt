@@ -1,5 +1,5 @@
-mod Frame
-mod Joining
-mod Loops
-mod Uniqueness
-mod Values
+pub mod Frame
+pub mod Joining
+pub mod Loops
+pub mod Uniqueness
+pub mod Values

@@ -6,7 +6,7 @@ use Rattle.std.specs.Of.Vec.{vec-items}
 use Rattle.keeper.specs.Readings.{clears}
 use Rattle.keeper.specs.Rules.{names}
 use Rattle.keeper.specs.Shown.{actOf, readingsOf}
-use Rattle.keeper.proofs.Clears.{clears-many}
+use Rattle.keeper.proofs.Choose.{clears-many}
 use Rattle.keeper.proofs.steps.take_away.Needs as need
 
 pub returns-in-Ok : need.returns-in-Ok
