@@ -9,3 +9,5 @@ pub mod Well
 pub mod Steps
 pub mod Runs
 pub mod Safe
+pub mod Cleared
+pub mod Progress

@@ -14,7 +14,7 @@ use Rattle.keeper.specs.Readings.{anyOf, isOf, holder, copied, countsAt, taken,
 use Rattle.keeper.specs.Steps.{places}
 use Rattle.recovery.specs.Disk.{Slot, empty, holds, Site, Disk, slotAt, readingsOf}
 use Rattle.recovery.proofs.Lists.{any-mem, mem-any, none-passes, any-none}
-use Rattle.recovery.proofs.Readings.{Read, mem-read, read-mem, asRead, of-true, Lower, copied-lower, Holding}
+use Rattle.recovery.proofs.Readings.{Read, mem-read, read-mem, asRead, of-true, Lower, copied-lower, lower-copied, Holding}
 use Rattle.recovery.proofs.Acts.{Spare, Elsewhere, NotLast, spare-from}
 use Rattle.recovery.proofs.Work.{some-same, none-some}
 
@@ -81,3 +81,102 @@ place-spare S D last d v k l o other h = go (holder d v (readingsOf S D)) h
       where
         versions : {p q : List ℕ} → holds v p ≡ holds last q → v ≡ last
         versions t = cc
+
+-- A drive that has a version has a place of its own for it.
+own-found : (d v : ℕ) (rs : List Reading) → holder d v rs ≡ true → (k : ℕ) × (ownPlace d v rs ≡ Some k)
+unfolding ownPlace anyOf
+own-found d v [] h = absurd (false≢true h)
+own-found d v (r ∷ rs) h = go (isOf d v r) h (own-found d v rs)
+  where
+    go : (b : Bool) → (b || anyOf (isOf d v) rs) ≡ true → (holder d v rs ≡ true → (k : ℕ) × (ownPlace d v rs ≡ Some k)) → (k : ℕ) × (cond b (Some (r .place)) (ownPlace d v rs) ≡ Some k)
+    go true e f = (r .place, refl)
+    go false e f = f e
+
+-- Where no place is free, all are taken.
+all-taken : (c d k : ℕ) (rs : List Reading) → freePlace c d k rs ≡ None → (x : ℕ) → k ≤ x → x < k + c → taken d x rs ≡ true
+unfolding freePlace
+all-taken zero d k rs h x a b = absurd (omega arith)
+all-taken (suc n) d k rs h x a b = go (taken d k rs) refl h (all-taken n d (suc k) rs)
+  where
+    go : (t : Bool) → taken d k rs ≡ t → cond t (freePlace n d (suc k) rs) (Some k) ≡ None → (freePlace n d (suc k) rs ≡ None → (y : ℕ) → suc k ≤ y → y < suc k + n → taken d y rs ≡ true) → taken d x rs ≡ true
+    go false e z f = absurd (none-some (sym z))
+    go true e z f = elim (cases-eq x k) [ inl q ↦ subst (λ y. taken d y rs ≡ true) (sym q) e | inr q ↦ f z x (omega arith) (omega arith) ]
+
+-- What stands in a taken place.
+pub record Standing (rs : List Reading) (d k : ℕ) : Type 0 where
+  pub reading : Reading
+  pub among : List·Memᴰ reading rs
+  pub drive : reading .drive ≡ d
+  pub place : reading .place ≡ k
+  pub own : copied rs reading ≡ false
+
+standing : (rs : List Reading) (d k : ℕ) → taken d k rs ≡ true → Standing rs d k
+standing rs d k h =
+    let q = mem-any (countsAt rs d k) rs h in
+    let a = and-parts (eqb (q .0 .drive) d) (eqb (q .0 .place) k && not (copied rs (q .0))) (q .2) in
+    let b = and-parts (eqb (q .0 .place) k) (not (copied rs (q .0))) (a .1) in
+    record { reading = q .0; among = q .1; drive = eqb-true (q .0 .drive) d (a .0); place = eqb-true (q .0 .place) k (b .0); own = not-true (copied rs (q .0)) (b .1) }
+
+-- Two places of a drive that count don't have the same version.
+apart : (rs : List Reading) (d j k : ℕ) → j < k → (r : Standing rs d j) (q : Standing rs d k) → r .reading .version ≡ q .reading .version → ⊥
+apart rs d j k l r q e =
+    true≢false
+        (sym (lower-copied rs (q .reading) (record { other = r .reading; among = r .among; drive = r .drive ∙ sym (q .drive); version = e; lower = omega (arith, r .place, q .place) })) ∙ q .own)
+
+-- A drive with pieces of two versions at most has a place for another.
+pub room : (rs : List Reading) (d v a b : ℕ) → ((r : Reading) → List·Memᴰ r rs → r .drive ≡ d → (r .version ≡ a) ⊎ ((r .version ≡ b) ⊎ (r .version ≡ v))) → (k : ℕ) × (placeFor places d v rs ≡ Some k)
+room rs d v a b h = go (holder d v rs) refl
+  where
+    two : holder d v rs ≡ false → {k : ℕ} (r : Standing rs d k) → (r .reading .version ≡ a) ⊎ (r .reading .version ≡ b)
+    two n r =
+        elim (h (r .reading) (r .among) (r .drive)) [
+            inl e ↦ inl e
+            | inr e ↦
+                elim e [
+                    inl f ↦ inr f
+                    | inr f ↦ absurd (true≢false (sym (any-mem (isOf d v) (r .among) (and-from (eqb (r .reading .drive) d) (eqb (r .reading .version) v) (eq-eqb (r .reading .drive) d (r .drive)) (eq-eqb (r .reading .version) v f))) ∙ n)) ] ]
+
+    full : holder d v rs ≡ false → freePlace places d 0 rs ≡ None → ⊥
+    full n e = pigeon (two n r0) (two n r1) (two n r2)
+      where
+        r0 : Standing rs d 0
+        r0 = standing rs d 0 (all-taken 4 d 0 rs e 0 (omega arith) (omega arith))
+
+        r1 : Standing rs d 1
+        r1 = standing rs d 1 (all-taken 4 d 0 rs e 1 (omega arith) (omega arith))
+
+        r2 : Standing rs d 2
+        r2 = standing rs d 2 (all-taken 4 d 0 rs e 2 (omega arith) (omega arith))
+
+        one : r0 .reading .version ≡ r1 .reading .version → ⊥
+        one = apart rs d 0 1 (omega arith) r0 r1
+
+        far : r0 .reading .version ≡ r2 .reading .version → ⊥
+        far = apart rs d 0 2 (omega arith) r0 r2
+
+        next : r1 .reading .version ≡ r2 .reading .version → ⊥
+        next = apart rs d 1 2 (omega arith) r1 r2
+
+        pigeon : (r0 .reading .version ≡ a) ⊎ (r0 .reading .version ≡ b) → (r1 .reading .version ≡ a) ⊎ (r1 .reading .version ≡ b) → (r2 .reading .version ≡ a) ⊎ (r2 .reading .version ≡ b) → ⊥
+        pigeon (inl x) (inl y) z = one (x ∙ sym y)
+        pigeon (inr x) (inr y) z = one (x ∙ sym y)
+        pigeon (inl x) (inr y) (inl z) = far (x ∙ sym z)
+        pigeon (inl x) (inr y) (inr z) = next (y ∙ sym z)
+        pigeon (inr x) (inl y) (inl z) = next (y ∙ sym z)
+        pigeon (inr x) (inl y) (inr z) = far (x ∙ sym z)
+
+    free : holder d v rs ≡ false → (o : Option ℕ) → freePlace places d 0 rs ≡ o → (k : ℕ) × (freePlace places d 0 rs ≡ Some k)
+    free n None e = absurd (full n e)
+    free n (Some k) e = (k, e)
+
+    go : (t : Bool) → holder d v rs ≡ t → (k : ℕ) × (cond t (ownPlace d v rs) (freePlace places d 0 rs) ≡ Some k)
+    go true e = own-found d v rs e
+    go false e = free e (freePlace places d 0 rs) refl
+
+-- A place for a version is one of the four.
+pub place-low : (S : Site) (D : Disk) (d v k : ℕ) → placeFor places d v (readingsOf S D) ≡ Some k → k < 4
+place-low S D d v k h = go (holder d v (readingsOf S D)) h
+  where
+    go : (b : Bool) → cond b (ownPlace d v (readingsOf S D)) (freePlace places d 0 (readingsOf S D)) ≡ Some k → k < 4
+    go false e = let q = free-place places d 0 (readingsOf S D) k e .1 in omega arith
+    go true e = let q = own-place d v (readingsOf S D) k e in subst (λ y. y < 4) (q .3) (mem-read S D (q .1) .low)

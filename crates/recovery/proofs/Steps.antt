@@ -48,7 +48,7 @@ all-have (suc n) isIn v rs h d l e = go (cases-eq d n) (all-have n isIn v rs (q 
             inl y ↦ absurd (true≢false (sym (subst (λ x. isIn x ≡ true) z e) ∙ not-true (isIn n) y))
             | inr y ↦ subst (λ x. holder x v rs ≡ true) (sym z) y ]
 
-in-howMany : (n : ℕ) (p : ℕ → Bool) → howManyIn n p ≡ howMany n p
+pub in-howMany : (n : ℕ) (p : ℕ → Bool) → howManyIn n p ≡ howMany n p
 unfolding howManyIn howMany
 in-howMany zero p = refl
 in-howMany (suc n) p = ap (λ x. cond (p n) 1 0 + x) (in-howMany n p)

@@ -3,3 +3,4 @@ pub mod Laws
 pub mod World
 pub mod Events
 pub mod Promise
+pub mod Progress

@@ -1,5 +1,6 @@
 // What the keeper's steps come to over whole runs, through stops, lost drives and drives that come back. The theorems stand on the contracts of small functions.
 ghost use Rattle.recovery.specs.Promise.{Safety, Onward, TakesHighest};
+ghost use Rattle.recovery.specs.Progress.{GoesOn};
 
 // After every run the version last finished can be worked out, what a read answers is its content, and nothing is worked out of pieces of two versions.
 pub fn safety_stands() -> u8
@@ -18,6 +19,13 @@ pub fn sequel_stands() -> u8
 // Settling takes the highest version that isn't below the bar and works out.
 pub fn highest_stands() -> u8
     ensures { λ _. ⌜ TakesHighest ⌝ }
+{
+    0
+}
+
+// It can always go on: an unsure object can be settled, every object brought to count, and every lacking piece made anew, by the keeper's own steps.
+pub fn progress_stands() -> u8
+    ensures { λ _. ⌜ GoesOn ⌝ }
 {
     0
 }
