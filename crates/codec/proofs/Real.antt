@@ -16,10 +16,11 @@ use Rattle.slots.specs.Layout.{around, pieceRoom, headerOf, bodyOf, bytesOf, re
 use Rattle.slots.specs.Slot.{hasRoom, written}
 use Rattle.slots.specs.Adler.{adler}
 use Rattle.slots.proofs.Standing.{slots}
-use Rattle.keeper.specs.Real.{onDrives, parts, Fits, WorkOut, WorksOut}
+use Rattle.keeper.specs.Real.{onDrives, parts, Fits}
 use Rattle.recovery.specs.Laws.{Laws, Content, Distinct as Apart}
+use Rattle.recovery.specs.Progress.{GoesOn}
 use Rattle.recovery.specs.Promise.{Safety, Onward}
-use Rattle.codec.specs.Stands.{readAs, laid, siteOf, Sized, RealLaws, RealPromise}
+use Rattle.codec.specs.Stands.{readAs, laid, Setting, site, RealLaws, RealPromise}
 use Rattle.codec.specs.WorkOut.{workOutOf, SomeWorksOut}
 use Rattle.codec.proofs.Unique.{length-values}
 
@@ -67,15 +68,18 @@ own-pieces need drives c ds most k apart within many =
       pieces = parts-back f ds ∙ ap (map f) (sym back);
     }
 
-laws : (o drives need : ℕ) (f : WorkOut) → Sized drives need → WorksOut need f → Laws (siteOf o drives need f)
-laws o drives need f sized w =
+laws : (s : Setting) → Laws (site s)
+laws s =
+    let o = s .object in
+    let need = s .need in
     record {
-      some = sized .some;
-      enough = sized .enough;
+      some = s .sized .some;
+      enough = s .sized .enough;
       written = λ d v c old dl vl k.
-          ap readAs (slots .written o d v (pieceOf need d c) (drop (length (recordOf o d v (pieceOf need d c))) old) (omega arith) (piece-room need d c (sized .some) k));
+          ap readAs (slots .written o d v (pieceOf need d c) (drop (length (recordOf o d v (pieceOf need d c))) old) (omega arith) (piece-room need d c (s .sized .some) k));
       wiped = λ d old dl. ap readAs (slots .cleared o d old);
-      works = λ c ds k apart within many. w .works (map (λ d. (d, pieceOf need d c)) ds) c (own-pieces need drives c ds (sized .most) k apart within many);
+      works = λ c ds k apart within many.
+          s .works .works (map (λ d. (d, pieceOf need d c)) ds) c (own-pieces need (s .drives) c ds (s .sized .most) k apart within many);
     }
 
 -- A record is as much longer than its piece as stands around it.
@@ -92,14 +96,16 @@ pub real-laws : SomeWorksOut → RealLaws
 real-laws works =
     record {
       laws = laws;
-      some = λ o drives need sized. laws o drives need (workOutOf need) sized (works need (sized .some));
+      some = λ o drives need sized.
+          laws (record { object = o; drives = drives; need = need; workOut = workOutOf need; sized = sized; works = works need (sized .some) });
       written = written-laid;
     }
 
 -- What holds of every codec and format with the laws holds of the real ones.
-pub real-promise : RealLaws → Safety → Onward → RealPromise
-real-promise real safety onward =
+pub real-promise : RealLaws → Safety → Onward → GoesOn → RealPromise
+real-promise real safety onward goes-on =
     record {
-      safe = λ o drives need f sized w. safety (siteOf o drives need f) (real .laws o drives need f sized w);
-      onward = λ o drives need f sized w. onward (siteOf o drives need f) (real .laws o drives need f sized w);
+      safe = λ s. safety (site s) (real .laws s);
+      onward = λ s. onward (site s) (real .laws s);
+      goesOn = λ s. goes-on (site s) (real .laws s);
     }

@@ -11,6 +11,7 @@ use Rattle.keeper.specs.Real.{WorkOut, WorksOut, codecOf}
 use Rattle.recovery.specs.Disk.{Slot, empty, holds, Format, Site}
 use Rattle.recovery.specs.Events.{Event, May, Run}
 use Rattle.recovery.specs.Laws.{Laws}
+use Rattle.recovery.specs.Progress.{CanGoOn}
 use Rattle.recovery.specs.Promise.{Safe, Sequel}
 use Rattle.recovery.specs.World.{World}
 use Rattle.codec.specs.WorkOut.{workOutOf}
@@ -32,23 +33,34 @@ formatOf o = record { decode = λ d bytes. readAs (slots.readSlot o d bytes); la
 abbrev pub siteOf : (object drives need : ℕ) → WorkOut → Site
 siteOf o drives need f = record { drives = drives; need = need; codec = codecOf need o f; format = formatOf o }
 
--- There are as many drives as pieces are needed, at least one, and not more than 32.
+-- At least one piece is needed, there are at least as many drives, and there are not more than 32 of them.
 pub record Sized (drives need : ℕ) : Type 0 where
   pub some : 1 ≤ need
   pub enough : need ≤ drives
   pub most : drives ≤ 32
 
+-- An object as the code keeps it: its number, how many drives there are and how many pieces are needed, and a function that works contents out.
+pub record Setting : Type 0 where
+  pub object : ℕ
+  pub drives : ℕ
+  pub need : ℕ
+  pub workOut : WorkOut
+  pub sized : Sized drives need
+  pub works : WorksOut need workOut
+
+abbrev pub site : Setting → Site
+site s = siteOf (s .object) (s .drives) (s .need) (s .workOut)
+
 pub record RealLaws : Type 0 where
   -- the laws hold, whichever function the contents are worked out by
-  pub laws : (o drives need : ℕ) (f : WorkOut) → Sized drives need → WorksOut need f → Laws (siteOf o drives need f)
+  pub laws : (s : Setting) → Laws (site s)
   -- and so they do for one that there is
   pub some : (o drives need : ℕ) → Sized drives need → Laws (siteOf o drives need (workOutOf need))
   -- what the code leaves in a place that has room for a piece is the piece's record over what was there
   pub written : (o d v : ℕ) (p old : List ℕ) → slots.hasRoom old p ≡ true → slots.written o d v p old ≡ laid (recordOf o d v p) old
 
--- So the theorem of the whole holds of the real bytes: after every run the object is safe, and whatever event comes next has its sequel.
+-- So the theorem of the whole holds of the real bytes: after every run the object is safe, whatever event comes next has its sequel, and the keeper can go on.
 pub record RealPromise : Type 0 where
-  pub safe : (o drives need : ℕ) (f : WorkOut) → Sized drives need → WorksOut need f → (w : World) → Run (siteOf o drives need f) w → Safe (siteOf o drives need f) w
-  pub onward :
-      (o drives need : ℕ) (f : WorkOut) → Sized drives need → WorksOut need f → (w : World) → Run (siteOf o drives need f) w →
-      (e : Event) → May (siteOf o drives need f) e w → Sequel (siteOf o drives need f) w e
+  pub safe : (s : Setting) (w : World) → Run (site s) w → Safe (site s) w
+  pub onward : (s : Setting) (w : World) → Run (site s) w → (e : Event) → May (site s) e w → Sequel (site s) w e
+  pub goesOn : (s : Setting) (w : World) → Run (site s) w → CanGoOn (site s) w

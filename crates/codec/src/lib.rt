@@ -2,6 +2,7 @@
 ghost use Rattle.codec.specs.Stands.{RealLaws, RealPromise};
 ghost use Rattle.codec.specs.WorkOut.{SomeWorksOut};
 use pieces::rows_are_determined;
+use recovery::progress_stands;
 use recovery::safety_stands;
 use recovery::sequel_stands;
 
@@ -25,5 +26,6 @@ pub fn promise_stands() -> u8
 {
     let _ = laws_stand();
     let _ = safety_stands();
-    sequel_stands()
+    let _ = sequel_stands();
+    progress_stands()
 }
