@@ -11,6 +11,7 @@ use slots::SLOT;
 
 // How many places a drive has for an object, and how many objects there are. Both will grow: nothing else says them in the code.
 pub const PLACES: usize = 4;
+
 pub const OBJECTS: usize = 256;
 
 // How many places an object has, and how many objects there are.
@@ -24,7 +25,11 @@ pub fn sizes() -> (usize, usize)
 pub fn slot_start(object: u8, place: usize) -> Option<usize>
     ensures { λ r. ⌜ r ≡ cond (ltb place places) (Some (slotFrom object place)) None ⌝ }
 {
-    if place < PLACES { Some((object as usize * PLACES + place) * SLOT) } else { None }
+    if place < PLACES {
+        Some((object as usize * PLACES + place) * SLOT)
+    } else {
+        None
+    }
 }
 
 // The bounds of that slot on a drive of so many bytes.

@@ -47,7 +47,14 @@ pub fn place_for(drive: &[u8], object: u8, number: u8, version: u64) -> Option<u
 }
 
 // Writes a piece of a version at a place, and leaves every other slot. False, and nothing changes, where there is no room for it.
-fn write_at(drive: &mut [u8], object: u8, number: u8, place: usize, version: u64, piece: &[u8]) -> bool
+fn write_at(
+    drive: &mut [u8],
+    object: u8,
+    number: u8,
+    place: usize,
+    version: u64,
+    piece: &[u8],
+) -> bool
     requires { ⌜ place < 4 ⌝ }
     ensures answer { λ r. ⌜ r ≡ hasRoom (slotAt (now (drive .entry)) object place) (now (piece .entry)) ⌝ }
     ensures after { λ _. ⌜ now (drive .exit) ≡ withSlot (now (drive .entry)) object place (written object number version (now (piece .entry)) (slotAt (now (drive .entry)) object place)) ⌝ }
@@ -57,7 +64,13 @@ fn write_at(drive: &mut [u8], object: u8, number: u8, place: usize, version: u64
 }
 
 // Writes a piece of a version of an object to the place for it, and says which that is. Refused, nothing changes.
-pub fn write_piece(drive: &mut [u8], object: u8, number: u8, version: u64, piece: &[u8]) -> Result<usize, Unwritten>
+pub fn write_piece(
+    drive: &mut [u8],
+    object: u8,
+    number: u8,
+    version: u64,
+    piece: &[u8],
+) -> Result<usize, Unwritten>
     ensures answer { λ r. ⌜ r ≡ writeAnswer (now (drive .entry)) object number version (now (piece .entry)) ⌝ }
     ensures after { λ _. ⌜ now (drive .exit) ≡ afterWrite (now (drive .entry)) object number version (now (piece .entry)) ⌝ }
 {

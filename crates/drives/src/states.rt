@@ -50,7 +50,11 @@ fn set_flag(flags: &mut [bool], at: usize, flag: bool)
 fn how_many_below(flags: &[bool], end: usize) -> usize
     ensures { λ r. ⌜ r ≡ howMany (take end (now (flags .entry))) ⌝ }
 {
-    if end < flags.len() { how_many(&flags[0..end]) } else { how_many(flags) }
+    if end < flags.len() {
+        how_many(&flags[0..end])
+    } else {
+        how_many(flags)
+    }
 }
 
 impl Drives {
@@ -61,7 +65,10 @@ impl Drives {
         if count < 2 || count as usize > MOST {
             return None;
         }
-        Some(Drives { count, present: [true; MOST] })
+        Some(Drives {
+            count,
+            present: [true; MOST],
+        })
     }
 
     // How many drives there are.
