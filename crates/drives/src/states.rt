@@ -1,7 +1,7 @@
 // Which of the drives are in.
 ghost use mathlib.Core.Bool.{Bool, true, false};
 ghost use mathlib.Core.Path.{_≡_};
-ghost use Prim.Native.Nat.{ℕ};
+ghost use Prim.Native.Nat.{ℕ, _≤_};
 ghost use lib.Dec.{ltb};
 ghost use lib.ListN.{length, getD, set, take, replicate};
 ghost use Rattle.std.specs.Options.{Cases as BySome};
@@ -15,6 +15,7 @@ const MOST: usize = 32;
 pub struct Drives {
     count: u8,
     present: [bool; 32],
+    ghost few: { count ≤ 32 },
 }
 
 // How many flags are set.
@@ -55,6 +56,13 @@ fn how_many_below(flags: &[bool], end: usize) -> usize
     } else {
         how_many(flags)
     }
+}
+
+// The first so many flags.
+fn flags_below(flags: &[bool], end: usize) -> &[bool]
+    ensures { λ r. ⌜ now r ≡ take end (now (flags .entry)) ⌝ }
+{
+    if end < flags.len() { &flags[0..end] } else { flags }
 }
 
 impl Drives {
@@ -109,6 +117,14 @@ impl Drives {
         }
         set_flag(&mut self.present, drive as usize, false);
         true
+    }
+
+    // For each drive whether it is in.
+    pub fn flags(&self) -> &[bool]
+        ensures each { λ r. ⌜ now r ≡ take (now (self .entry) .count) (now (self .entry) .present) ⌝ }
+        ensures few { λ r. ⌜ length (now r) ≤ 32 ⌝ }
+    {
+        flags_below(&self.present, self.count as usize)
     }
 
     // How many drives are in.

@@ -75,7 +75,7 @@ pub worked-fits : (need : ℕ) (ps : List Piece) (c : List ℕ) → IsNeed need 
 worked-fits need ps c n f =
     let ds : All IsDrive (drives ps) = rw (drives-given ps) at (f .drives) in
     let es : their-parts ps ≡ map (λ d. pieceOf need d c) (drives ps) = rw (drives-given ps, parts-given ps) at (f .pieces) in
-    made-work need ps c (sym (length-map ps pieceGiven) ∙ f .many) (rw (drives-given ps) at (f .distinct)) (f .bytes) (all-made need c ps n (f .short) ds es) (n .0)
+    made-work need ps c (n .0) (sym (length-map ps pieceGiven) ∙ f .many) (rw (drives-given ps) at (f .distinct)) (f .bytes) (all-made need c ps n (f .short) ds es)
 
 -- The content of a version by what its pieces work out to.
 module _ (need v : ℕ) (rs : List Reading) (ps : List Piece) (same : map pieceGiven ps ≡ map given (take need (piecesOf v rs))) (n : IsNeed need) (o : ℕ) (f : WorkOut) (u : Setup) (right : WorksOut need f) (un : u .need ≡ need) where
