@@ -108,8 +108,11 @@ keeps-placing S D last d k bs begun spare x l h = record { isIn = h .isIn; has =
     there : Elsewhere S D d k last → x ≡ d → Holding S D′ x last
     there e q =
         record {
-            place = e .place; low = e .low; piece = e .piece;
-            slot = slot-other S D d k bs begun x (e .place) (λ _ z. e .other z) ∙ subst (λ y. slotAt S D y (e .place) ≡ holds last (e .piece)) (sym q) (e .slot) }
+          place = e .place;
+          low = e .low;
+          piece = e .piece;
+          slot = slot-other S D d k bs begun x (e .place) (λ _ z. e .other z) ∙ subst (λ y. slotAt S D y (e .place) ≡ holds last (e .piece)) (sym q) (e .slot);
+        }
 
     still : Holding S D x last → (x ≡ d → ⊥) → Holding S D′ x last
     still e q = record { place = e .place; low = e .low; piece = e .piece; slot = slot-other S D d k bs begun x (e .place) (λ z _. q z) ∙ e .slot }
@@ -167,7 +170,7 @@ module _ (S : Site) (L : Laws S) (content : ℕ → Option (List ℕ)) (last low
 
   -- what a write brings is right, and so is all that was once begun there
   remembered : (s : Slot) (begun : List (ℕ × List ℕ)) (d v : ℕ) (p : List ℕ) → s ≡ holds v p → Right S content d v p → ((x : ℕ) (q : List ℕ) → List·Memᴰ (x, q) begun → Right S content d x q) →
-    (x : ℕ) (q : List ℕ) → List·Memᴰ (x, q) (remember s begun) → Right S content d x q
+      (x : ℕ) (q : List ℕ) → List·Memᴰ (x, q) (remember s begun) → Right S content d x q
   remembered s begun d v p e r h x q m = go (List·Memᴰ·cases-cons (subst (λ t. List·Memᴰ (x, q) (remember t begun)) e m))
     where
       go : (_≡_ {A = ℕ × List ℕ} (x, q) (v, p)) ⊎ List·Memᴰ (x, q) begun → Right S content d x q
@@ -189,30 +192,41 @@ module _ (S : Site) (L : Laws S) (content : ℕ → Option (List ℕ)) (last low
   pub goes : (a : Act) (D : Disk) → Sound S content D → Filed low bar D → Gentle S content last low bar D a → Goes S content last low bar D (perform S a D)
   goes (writeSlot d k bs) D s f g =
       record {
-          sound = sound-placing s d k (S .format .lay bs (D .bytes d k)) (begunBy S d k bs D) (begun-first (S .format .decode d (S .format .lay bs (D .bytes d k))) (D .once d k)) (begun-right D s d k bs g);
-          filed = record { number = f .number; bar = f .bar };
-          keeps = keeps-placing S D last d k (S .format .lay bs (D .bytes d k)) (begunBy S d k bs D) (g .spare); out = refl }
+        sound = sound-placing s d k (S .format .lay bs (D .bytes d k)) (begunBy S d k bs D) (begun-first (S .format .decode d (S .format .lay bs (D .bytes d k))) (D .once d k)) (begun-right D s d k bs g);
+        filed = record { number = f .number; bar = f .bar };
+        keeps = keeps-placing S D last d k (S .format .lay bs (D .bytes d k)) (begunBy S d k bs D) (g .spare);
+        out = refl;
+      }
   goes (clearSlot d k) D s f g =
       record {
-          sound = sound-placing s d k (S .format .wipe d (D .bytes d k)) (D .once d k) (subst (λ t. OnceBegun (D .once d k) t) (sym (L .wiped d (D .bytes d k) (g .inside))) tt) (s .right d k);
-          filed = record { number = f .number; bar = f .bar };
-          keeps = keeps-placing S D last d k (S .format .wipe d (D .bytes d k)) (D .once d k) (spare-from S D last d k (g .notLast)); out = refl }
+        sound = sound-placing s d k (S .format .wipe d (D .bytes d k)) (D .once d k) (subst (λ t. OnceBegun (D .once d k) t) (sym (L .wiped d (D .bytes d k) (g .inside))) tt) (s .right d k);
+        filed = record { number = f .number; bar = f .bar };
+        keeps = keeps-placing S D last d k (S .format .wipe d (D .bytes d k)) (D .once d k) (spare-from S D last d k (g .notLast));
+        out = refl;
+      }
   goes (replaceFile number bar′) D s f g =
       record {
-          sound = record { reads = s .reads; right = s .right }; filed = record { number = g .number; bar = g .bar };
-          keeps = λ x l h. refiled S D last number bar′ x h; out = refl }
+        sound = record { reads = s .reads; right = s .right };
+        filed = record { number = g .number; bar = g .bar };
+        keeps = λ x l h. refiled S D last number bar′ x h;
+        out = refl;
+      }
 
   torn : (m : List ℕ) (a : Act) (D : Disk) → Sound S content D → Filed low bar D → Gentle S content last low bar D a → MayLeave S m a D → Goes S content last low bar D (tear S m a D)
   torn m (writeSlot d k bs) D s f g h =
       record {
-          sound = sound-placing s d k m (begunBy S d k bs D) h (begun-right D s d k bs g);
-          filed = record { number = f .number; bar = f .bar };
-          keeps = keeps-placing S D last d k m (begunBy S d k bs D) (g .spare); out = refl }
+        sound = sound-placing s d k m (begunBy S d k bs D) h (begun-right D s d k bs g);
+        filed = record { number = f .number; bar = f .bar };
+        keeps = keeps-placing S D last d k m (begunBy S d k bs D) (g .spare);
+        out = refl;
+      }
   torn m (clearSlot d k) D s f g h =
       record {
-          sound = sound-placing s d k m (D .once d k) h (s .right d k);
-          filed = record { number = f .number; bar = f .bar };
-          keeps = keeps-placing S D last d k m (D .once d k) (spare-from S D last d k (g .notLast)); out = refl }
+        sound = sound-placing s d k m (D .once d k) h (s .right d k);
+        filed = record { number = f .number; bar = f .bar };
+        keeps = keeps-placing S D last d k m (D .once d k) (spare-from S D last d k (g .notLast));
+        out = refl;
+      }
   torn m (replaceFile number bar′) D s f g h = stays D s f
 
   onward : (D E F : Disk) → Goes S content last low bar D E → Goes S content last low bar E F → Goes S content last low bar D F
@@ -239,7 +253,7 @@ module _ (S : Site) (L : Laws S) (content : ℕ → Option (List ℕ)) (last low
   not-last-wiped D d k a b l (inl e) = inl e
   not-last-wiped D d k a b l (inr h) =
       inr (λ p. at-elim (λ (bs : List ℕ). S .format .decode a bs ≡ holds last p → ⊥) d k (S .format .wipe d (D .bytes d k)) (D .bytes) a b
-          (λ e f z. wipes (sym (L .wiped d (D .bytes d k) l) ∙ subst (λ x. S .format .decode x (S .format .wipe d (D .bytes d k)) ≡ holds last p) e z)) (λ _. h p))
+      (λ e f z. wipes (sym (L .wiped d (D .bytes d k) l) ∙ subst (λ x. S .format .decode x (S .format .wipe d (D .bytes d k)) ≡ holds last p) e z)) (λ _. h p))
     where
       wipes : {p : List ℕ} → empty ≡ holds last p → ⊥
       wipes e = let z : _≡_ {A = ℕ} 0 1 = cc in omega arith

@@ -31,7 +31,7 @@ AtLeast x (Some f) = x ≤ f .0
 module _ (C : Codec) (u : Setup) (bar : ℕ) (all : List Reading) where
   -- the two outcomes of looking at a version
   look : (Q : Found → Type 0) (best : Found) (v : ℕ) →
-    ((leb 1 v && (leb bar v && higher v best)) ≡ false → Q best) → ((leb 1 v && (leb bar v && higher v best)) ≡ true → (o : Option (List ℕ)) → contentOf C u v all ≡ o → Q (taking v best o)) → Q (better C u bar all best v)
+      ((leb 1 v && (leb bar v && higher v best)) ≡ false → Q best) → ((leb 1 v && (leb bar v && higher v best)) ≡ true → (o : Option (List ℕ)) → contentOf C u v all ≡ o → Q (taking v best o)) → Q (better C u bar all best v)
   look Q best v no′ yes′ = go (leb 1 v && (leb bar v && higher v best)) refl
     where
       go : (b : Bool) → (leb 1 v && (leb bar v && higher v best)) ≡ b → Q (cond b (taking v best (contentOf C u v all)) best)

@@ -11,3 +11,5 @@ pub mod Runs
 pub mod Safe
 pub mod Cleared
 pub mod Progress
+pub mod Store
+pub mod Example

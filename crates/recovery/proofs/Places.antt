@@ -56,8 +56,12 @@ free-spare S D last d k l o h = inr elsewhere
             let b : q .other .version ≡ last = q .version in
             let c : q .other .place < k = q .lower in
             record {
-                place = q .other .place; low = r .low; other = λ z. omega arith; piece = q .other .piece;
-                slot = subst (λ y. slotAt S D d (q .other .place) ≡ holds y (q .other .piece)) b (subst (λ y. slotAt S D y (q .other .place) ≡ holds (q .other .version) (q .other .piece)) a (r .slot)) }
+              place = q .other .place;
+              low = r .low;
+              other = λ z. omega arith;
+              piece = q .other .piece;
+              slot = subst (λ y. slotAt S D d (q .other .place) ≡ holds y (q .other .piece)) b (subst (λ y. slotAt S D y (q .other .place) ≡ holds (q .other .version) (q .other .piece)) a (r .slot));
+            }
 
         go : (b : Bool) → copied rs (asRead d k last p) ≡ b → Elsewhere S D d k last
         go true z = from (copied-lower rs (asRead d k last p) z)
@@ -121,7 +125,7 @@ standing rs d k h =
 apart : (rs : List Reading) (d j k : ℕ) → j < k → (r : Standing rs d j) (q : Standing rs d k) → r .reading .version ≡ q .reading .version → ⊥
 apart rs d j k l r q e =
     true≢false
-        (sym (lower-copied rs (q .reading) (record { other = r .reading; among = r .among; drive = r .drive ∙ sym (q .drive); version = e; lower = omega (arith, r .place, q .place) })) ∙ q .own)
+    (sym (lower-copied rs (q .reading) (record { other = r .reading; among = r .among; drive = r .drive ∙ sym (q .drive); version = e; lower = omega (arith, r .place, q .place) })) ∙ q .own)
 
 -- A drive with pieces of two versions at most has a place for another.
 pub room : (rs : List Reading) (d v a b : ℕ) → ((r : Reading) → List·Memᴰ r rs → r .drive ≡ d → (r .version ≡ a) ⊎ ((r .version ≡ b) ⊎ (r .version ≡ v))) → (k : ℕ) × (placeFor places d v rs ≡ Some k)
@@ -130,11 +134,13 @@ room rs d v a b h = go (holder d v rs) refl
     two : holder d v rs ≡ false → {k : ℕ} (r : Standing rs d k) → (r .reading .version ≡ a) ⊎ (r .reading .version ≡ b)
     two n r =
         elim (h (r .reading) (r .among) (r .drive)) [
-            inl e ↦ inl e
-            | inr e ↦
-                elim e [
-                    inl f ↦ inr f
-                    | inr f ↦ absurd (true≢false (sym (any-mem (isOf d v) (r .among) (and-from (eqb (r .reading .drive) d) (eqb (r .reading .version) v) (eq-eqb (r .reading .drive) d (r .drive)) (eq-eqb (r .reading .version) v f))) ∙ n)) ] ]
+          | inl e ↦ inl e
+          | inr e ↦
+              elim e [
+                | inl f ↦ inr f
+                | inr f ↦ absurd (true≢false (sym (any-mem (isOf d v) (r .among) (and-from (eqb (r .reading .drive) d) (eqb (r .reading .version) v) (eq-eqb (r .reading .drive) d (r .drive)) (eq-eqb (r .reading .version) v f))) ∙ n))
+              ]
+        ]
 
     full : holder d v rs ≡ false → freePlace places d 0 rs ≡ None → ⊥
     full n e = pigeon (two n r0) (two n r1) (two n r2)

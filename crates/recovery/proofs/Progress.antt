@@ -54,7 +54,7 @@ module _ (S : Site) (L : Laws S) where
   unfolding performAll
   wrote w I o v c a b i l h =
       passes Q (leb (S .drives) i) (refuse (w .state) NoSuch) (Steps.writingTo (S .codec) (setup S (w .disk)) (w .state) i rs (w .state .known)) (lt-leb (S .drives) i l)
-          (subst (λ k. Q (Steps.writingTo (S .codec) (setup S (w .disk)) (w .state) i rs k)) (sym (h .known)) (tested (w .disk .out i) refl))
+      (subst (λ k. Q (Steps.writingTo (S .codec) (setup S (w .disk)) (w .state) i rs k)) (sym (h .known)) (tested (w .disk .out i) refl))
     where
       rs : List Reading
       rs = readingsOf S (w .disk)
@@ -85,11 +85,13 @@ module _ (S : Site) (L : Laws S) where
       written : (k : ℕ) → k < 4 → Q (record { reply = done; acts = writeSlot i k bytes ∷ []; state = w .state })
       written k low =
           record {
-              known = h .known;
-              few = λ d j x p m n out e. elim (spot k d j) [
-                  inl q ↦ inr (inr (versions (sym (reads k) ∙ subst (λ y. slotAt S (perform S (writeSlot i k bytes) (w .disk)) i y ≡ holds x p) (q .1) (subst (λ y. slotAt S (perform S (writeSlot i k bytes) (w .disk)) y j ≡ holds x p) (q .0) e))))
-                  | inr q ↦ h .few d j x p m n out (sym (elsewhere k d j q) ∙ e) ];
-              have = have′ }
+            known = h .known;
+            few = λ d j x p m n out e. elim (spot k d j) [
+              | inl q ↦ inr (inr (versions (sym (reads k) ∙ subst (λ y. slotAt S (perform S (writeSlot i k bytes) (w .disk)) i y ≡ holds x p) (q .1) (subst (λ y. slotAt S (perform S (writeSlot i k bytes) (w .disk)) y j ≡ holds x p) (q .0) e))))
+              | inr q ↦ h .few d j x p m n out (sym (elsewhere k d j q) ∙ e)
+            ];
+            have = have′;
+          }
         where
           versions : {x : ℕ} {p q : List ℕ} → holds v p ≡ holds x q → x ≡ v
           versions t = cc
@@ -97,8 +99,9 @@ module _ (S : Site) (L : Laws S) where
           have′ : (d : ℕ) → d < suc i → w .disk .out d ≡ false → Holding S (perform S (writeSlot i k bytes) (w .disk)) d v
           have′ d m out =
               elim (cases-eq d i) [
-                  inl e ↦ record { place = k; low = low; piece = S .codec .pieceOf i c; slot = subst (λ y. slotAt S (perform S (writeSlot i k bytes) (w .disk)) y k ≡ holds v (S .codec .pieceOf i c)) (sym e) (reads k) }
-                  | inr e ↦ (let q = h .have d (omega arith) out in record { place = q .place; low = q .low; piece = q .piece; slot = elsewhere k d (q .place) (λ f _. e f) ∙ q .slot }) ]
+                | inl e ↦ record { place = k; low = low; piece = S .codec .pieceOf i c; slot = subst (λ y. slotAt S (perform S (writeSlot i k bytes) (w .disk)) y k ≡ holds v (S .codec .pieceOf i c)) (sym e) (reads k) }
+                | inr e ↦ (let q = h .have d (omega arith) out in record { place = q .place; low = q .low; piece = q .piece; slot = elsewhere k d (q .place) (λ f _. e f) ∙ q .slot })
+              ]
 
       put : (p : Option ℕ) → placeFor places i v (readingsOf S (w .disk)) ≡ p → Q (Steps.writeAt (S .codec) (w .state) i v c done p)
       put None e = let q : _≡_ {A = ℕ} 0 1 = (let f = sym e ∙ place .1 in cc) in absurd (omega arith)
@@ -136,8 +139,8 @@ module _ (S : Site) (L : Laws S) where
   finishes : (w : World) → Inv S w → (o v : ℕ) (c : List ℕ) (a b : ℕ) → Half S (w .disk) (w .state) o v c a b (S .drives) → stepped S finish w .state .known ≡ counts v
   finishes w I o v c a b h =
       subst (λ k. Q (Steps.finishing (setup S (w .disk)) (w .state) rs k)) (sym (h .known))
-          (passes Q (not (allHave (S .drives) isIn v rs)) (refuse (w .state) Rattle.keeper.specs.declared.refusal.Refusal.the-variants.NotEverywhere) rest (not-from-true (allHave (S .drives) isIn v rs) all)
-              (passes Q (ltb (howManyIn (S .drives) isIn) (S .need)) (refuse (w .state) Rattle.keeper.specs.declared.refusal.Refusal.the-variants.TooFewIn) now (le-ltb (howManyIn (S .drives) isIn) (S .need) enough) refl))
+      (passes Q (not (allHave (S .drives) isIn v rs)) (refuse (w .state) Rattle.keeper.specs.declared.refusal.Refusal.the-variants.NotEverywhere) rest (not-from-true (allHave (S .drives) isIn v rs) all)
+      (passes Q (ltb (howManyIn (S .drives) isIn) (S .need)) (refuse (w .state) Rattle.keeper.specs.declared.refusal.Refusal.the-variants.TooFewIn) now (le-ltb (howManyIn (S .drives) isIn) (S .need) enough) refl))
     where
       rs : List Reading
       rs = readingsOf S (w .disk)
@@ -181,7 +184,7 @@ module _ (S : Site) (L : Laws S) where
   unfolding performAll
   settled w e small =
       subst (λ k. Q (Steps.settling (S .codec) (setup S (w .disk)) (w .state) (readingsOf S (w .disk)) k)) (sym e)
-          (passes Q (leb lastNumber (w .state .next)) (refuse (w .state) Rattle.keeper.specs.declared.refusal.Refusal.the-variants.NoMoreVersions) (Steps.settlingOn (w .state) (readingsOf S (w .disk)) best) (lt-leb lastNumber (w .state .next) small) (go best))
+      (passes Q (leb lastNumber (w .state .next)) (refuse (w .state) Rattle.keeper.specs.declared.refusal.Refusal.the-variants.NoMoreVersions) (Steps.settlingOn (w .state) (readingsOf S (w .disk)) best) (lt-leb lastNumber (w .state .next) small) (go best))
     where
       best : Found
       best = highest (S .codec) (setup S (w .disk)) (w .state .bar) (readingsOf S (w .disk)) None (readingsOf S (w .disk))
@@ -189,29 +192,35 @@ module _ (S : Site) (L : Laws S) where
       Q : Outcome → Type 0
       Q x = (x .state .known ≡ counts 0) ⊎ Begun (performAll S (x .acts) (w .disk)) (x .state)
 
-      module-few : (f : ℕ × List ℕ) (t : Bool) → Few S (performAll S (cond t (replaceFile (w .state .number + stride) (w .state .bar) ∷ []) [] ++ clears (λ r. not (eqb (r .version) (f .0) || eqb (r .version) (w .state .bar))) (readingsOf S (w .disk))) (w .disk)) (f .0) (w .state .bar) (w .state .next)
-      module-few f t d k x p l low out q = named (which t out q)
+      few-left : (f : ℕ × List ℕ) (t : Bool) → Few S (performAll S (cond t (replaceFile (w .state .number + stride) (w .state .bar) ∷ []) [] ++ clears (λ r. not (eqb (r .version) (f .0) || eqb (r .version) (w .state .bar))) (readingsOf S (w .disk))) (w .disk)) (f .0) (w .state .bar) (w .state .next)
+      few-left f t d k x p l low out q = named (which t out q)
         where
           rule : Reading → Bool
           rule r = not (eqb (r .version) (f .0) || eqb (r .version) (w .state .bar))
 
           which : (t : Bool) → performAll S (cond t (replaceFile (w .state .number + stride) (w .state .bar) ∷ []) [] ++ clears rule (readingsOf S (w .disk))) (w .disk) .out d ≡ false →
-            slotAt S (performAll S (cond t (replaceFile (w .state .number + stride) (w .state .bar) ∷ []) [] ++ clears rule (readingsOf S (w .disk))) (w .disk)) d k ≡ holds x p → Spared S (w .disk) rule d k x p
+              slotAt S (performAll S (cond t (replaceFile (w .state .number + stride) (w .state .bar) ∷ []) [] ++ clears rule (readingsOf S (w .disk))) (w .disk)) d k ≡ holds x p → Spared S (w .disk) rule d k x p
           which true i y = spared S L (w .disk) rule (w .state .number + stride) (w .state .bar) d k x p l low (subst (λ (g : ℕ → Bool). g d ≡ false) (clears-keep S (w .disk) rule (w .state .number + stride) (w .state .bar)) i) y
           which false i y = spared S L (w .disk) rule (w .disk .number) (w .disk .bar) d k x p l low (subst (λ (g : ℕ → Bool). g d ≡ false) (clears-keep S (w .disk) rule (w .disk .number) (w .disk .bar)) i) y
 
           named : Spared S (w .disk) rule d k x p → (x ≡ f .0) ⊎ ((x ≡ w .state .bar) ⊎ (x ≡ w .state .next))
           named z =
               elim (or-cases (eqb x (f .0)) (eqb x (w .state .bar)) (not-false (eqb x (f .0) || eqb x (w .state .bar)) (z .unnamed))) [
-                  inl y ↦ inl (eqb-true x (f .0) y)
-                  | inr y ↦ inr (inl (eqb-true x (w .state .bar) y)) ]
+                | inl y ↦ inl (eqb-true x (f .0) y)
+                | inr y ↦ inr (inl (eqb-true x (w .state .bar) y))
+              ]
 
       go : (f : Found) → Q (Steps.settlingOn (w .state) (readingsOf S (w .disk)) f)
       go None = inl refl
       go (Some f) =
           inr (record {
-              old = f .0; new = w .state .next; content = f .1; first = f .0; second = w .state .bar;
-              half = record { known = refl; few = module-few f (leb (w .state .number) (w .state .next)); have = λ d l. absurd (omega arith) } })
+            old = f .0;
+            new = w .state .next;
+            content = f .1;
+            first = f .0;
+            second = w .state .bar;
+            half = record { known = refl; few = few-left f (leb (w .state .number) (w .state .next)); have = λ d l. absurd (omega arith) };
+          })
 
   count-from : (w₀ w : World) → BySteps S w₀ w → Inv S w → w .state .known ≡ unsure → w .state .next < lastNumber → Counting S w₀
   count-from w₀ w steps I e small = go (settled w e small)
@@ -244,11 +253,13 @@ module _ (S : Site) (L : Laws S) where
   tidied : (w : World) (v d : ℕ) → w .state .known ≡ counts v → d < S .drives → w .disk .out d ≡ false → Tidied (stepped S (tidy d) w .disk) (stepped S (tidy d) w .state) d v
   tidied w v d e l i =
       passes Q (leb (S .drives) d) (refuse (w .state) NoSuch) (Steps.tidying (setup S (w .disk)) (w .state) d rs (w .state .known)) (lt-leb (S .drives) d l)
-          (subst (λ k. Q (Steps.tidying (setup S (w .disk)) (w .state) d rs k)) (sym e)
-              (passes Q (not (not (w .disk .out d))) (refuse (w .state) DriveOut) (Steps.takeAway (w .state) rule rs) (in-test (w .disk .out d) i)
-                  (record {
-                      known = e; isIn = subst (λ (g : ℕ → Bool). g d ≡ false) (sym (clears-keep S (w .disk) rule (w .disk .number) (w .disk .bar))) i;
-                      only = λ k y p low q. named k y p (spared S L (w .disk) rule (w .disk .number) (w .disk .bar) d k y p l low i q) })))
+      (subst (λ k. Q (Steps.tidying (setup S (w .disk)) (w .state) d rs k)) (sym e)
+      (passes Q (not (not (w .disk .out d))) (refuse (w .state) DriveOut) (Steps.takeAway (w .state) rule rs) (in-test (w .disk .out d) i)
+      (record {
+        known = e;
+        isIn = subst (λ (g : ℕ → Bool). g d ≡ false) (sym (clears-keep S (w .disk) rule (w .disk .number) (w .disk .bar))) i;
+        only = λ k y p low q. named k y p (spared S L (w .disk) rule (w .disk .number) (w .disk .bar) d k y p l low i q);
+      })))
     where
       rs : List Reading
       rs = readingsOf S (w .disk)
@@ -262,16 +273,17 @@ module _ (S : Site) (L : Laws S) where
       named : (k y : ℕ) (p : List ℕ) → Spared S (w .disk) rule d k y p → y ≡ v
       named k y p z =
           elim (and-cases (eqb d d) (not (eqb y v)) (z .unnamed)) [
-              inl q ↦ absurd (true≢false (sym (eq-eqb d d refl) ∙ q))
-              | inr q ↦ eqb-true y v (not-false (eqb y v) q) ]
+            | inl q ↦ absurd (true≢false (sym (eq-eqb d d refl) ∙ q))
+            | inr q ↦ eqb-true y v (not-false (eqb y v) q)
+          ]
 
   mended-has : (w : World) → Inv S w → (v d : ℕ) → 1 ≤ v → d < S .drives → Tidied (w .disk) (w .state) d v → has S (stepped S (mend d) w .disk) d v ≡ true
   unfolding performAll
   mended-has w I v d one l t =
       passes Q (leb (S .drives) d) (refuse (w .state) NoSuch) (Steps.mending (S .codec) (setup S (w .disk)) (w .state) d (readingsOf S (w .disk)) (w .state .known)) (lt-leb (S .drives) d l)
-          (subst (λ k. Q (Steps.mending (S .codec) (setup S (w .disk)) (w .state) d (readingsOf S (w .disk)) k)) (sym (t .known))
-              (passes Q (not (not (w .disk .out d))) (refuse (w .state) DriveOut) onward (in-test (w .disk .out d) (t .isIn))
-                  (passes Q (eqb v 0) (Steps.nothingToMend (w .state) (placeFor places d v (readingsOf S (w .disk)))) held (ne-eqb v 0 (λ z. omega arith)) (go (holder d v (readingsOf S (w .disk))) refl))))
+      (subst (λ k. Q (Steps.mending (S .codec) (setup S (w .disk)) (w .state) d (readingsOf S (w .disk)) k)) (sym (t .known))
+      (passes Q (not (not (w .disk .out d))) (refuse (w .state) DriveOut) onward (in-test (w .disk .out d) (t .isIn))
+      (passes Q (eqb v 0) (Steps.nothingToMend (w .state) (placeFor places d v (readingsOf S (w .disk)))) held (ne-eqb v 0 (λ z. omega arith)) (go (holder d v (readingsOf S (w .disk))) refl))))
     where
       Q : Outcome → Type 0
       Q x = has S (performAll S (x .acts) (w .disk)) d v ≡ true
@@ -307,22 +319,26 @@ module _ (S : Site) (L : Laws S) where
       written k low =
           let u = I .consistent .used v whole used in
           holding-has S (perform S (writeSlot d k (S .codec .encode d v (S .codec .pieceOf d whole))) (w .disk)) d v
-              (record {
-                  place = k; low = low; piece = S .codec .pieceOf d whole;
-                  slot = slot-same S (w .disk) d k (S .format .lay (S .codec .encode d v (S .codec .pieceOf d whole)) (w .disk .bytes d k)) (begunBy S d k (S .codec .encode d v (S .codec .pieceOf d whole)) (w .disk)) ∙ L .written d v whole (w .disk .bytes d k) l (u .small) (u .content) })
+          (record {
+            place = k;
+            low = low;
+            piece = S .codec .pieceOf d whole;
+            slot = slot-same S (w .disk) d k (S .format .lay (S .codec .encode d v (S .codec .pieceOf d whole)) (w .disk .bytes d k)) (begunBy S d k (S .codec .encode d v (S .codec .pieceOf d whole)) (w .disk)) ∙ L .written d v whole (w .disk .bytes d k) l (u .small) (u .content);
+          })
 
       go : (b : Bool) → holder d v (readingsOf S (w .disk)) ≡ b → Q (cond b (Steps.tell (w .state) (mended 0)) again)
       go true e = holding-has S (w .disk) d v (holder-holding S (w .disk) d v e .0)
       go false e =
           subst (λ p. Q (Steps.remake (S .codec) (w .state) d v p (contentOf (S .codec) (setup S (w .disk)) v (readingsOf S (w .disk))))) (sym (place .1))
-              (subst (λ o. Q (Steps.remake (S .codec) (w .state) d v (Some (place .0)) o)) (sym works) (written (place .0) (place-low S (w .disk) d v (place .0) (place .1))))
+          (subst (λ o. Q (Steps.remake (S .codec) (w .state) d v (Some (place .0)) o)) (sym works) (written (place .0) (place-low S (w .disk) d v (place .0) (place .1))))
 
   pub goes-on-from : (w : World) → Inv S w → CanGoOn S w
   goes-on-from w I =
       record {
-          settles = λ e small z. refuted (settled w e small) z;
-          counting = can-count w I;
-          mends = λ v d e one l i. mended-has (stepped S (tidy d) w) (step-well S L w I (tidy d) tt .inv) v d one l (tidied w v d e l i) }
+        settles = λ e small z. refuted (settled w e small) z;
+        counting = can-count w I;
+        mends = λ v d e one l i. mended-has (stepped S (tidy d) w) (step-well S L w I (tidy d) tt .inv) v d one l (tidied w v d e l i);
+      }
     where
       refuted : (stepped S settle w .state .known ≡ counts 0) ⊎ Begun (stepped S settle w .disk) (stepped S settle w .state) → stepped S settle w .state .known ≡ unsure → ⊥
       refuted (inl e) z = let q : _≡_ {A = ℕ} 0 1 = (let f = sym e ∙ z in cc) in omega arith

@@ -47,8 +47,11 @@ mem-places S D (suc n) d k {r} m = go (slotAt S D d k) refl m (mem-places S D n 
         let a : r .drive ≡ d = ap (λ (x : Reading). x .drive) q in
         let b : r .place ≡ k = ap (λ (x : Reading). x .place) q in
         record {
-            drive = a; from = omega (arith, b); below = omega (arith, b);
-            slot = subst (λ (x : Reading). slotAt S D (x .drive) (x .place) ≡ holds (x .version) (x .piece)) (sym q) e }
+          drive = a;
+          from = omega (arith, b);
+          below = omega (arith, b);
+          slot = subst (λ (x : Reading). slotAt S D (x .drive) (x .place) ≡ holds (x .version) (x .piece)) (sym q) e;
+        }
 
     go : (s : Slot) → slotAt S D d k ≡ s → List·Memᴰ r (withReading d k s (readPlaces S D n d (suc k))) → (List·Memᴰ r (readPlaces S D n d (suc k)) → OnDrive S D n d (suc k) r) → OnDrive S D (suc n) d k r
     go empty e m′ f = later (f m′)

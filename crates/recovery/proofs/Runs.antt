@@ -13,7 +13,7 @@ use Rattle.keeper.specs.Object.{unsure, counts, writing, State, Act, replaceFil
 use Rattle.recovery.specs.Disk.{Slot, empty, holds, Site, Disk, slotAt, hasFrom, howMany, without, bearing, cut, MayCut, OnceBegun}
 use Rattle.recovery.specs.Laws.{Laws}
 use Rattle.recovery.specs.World.{Past, World, Call, outcomeOf, weak, Bearable}
-use Rattle.recovery.specs.Events.{Given, Event, step, cutShort, stop, others, failing, goesOut, returns, firstState, comingUp, stopped, after, MayMove, May, First, Run, first, then}
+use Rattle.recovery.specs.Events.{Given, Event, step, cutShort, stop, others, failing, goesOut, returns, comingUp, stopped, after, MayMove, May, First, Run, first, then}
 use Rattle.recovery.specs.Promise.{Fresh, Own, Sequel}
 use Rattle.recovery.proofs.Invariant.{Right, Sound, Used, Writing, Knowing, LastIsBar, Consistent, Filed, Inv}
 use Rattle.recovery.proofs.Acts.{Strong, strong, not-weak, Keeps, refiled, Goes, stays, cut-goes}
@@ -37,36 +37,26 @@ pub record Up (P : Past) (D : Disk) (t : State) : Type 0 where
   pub filed : Filed (t .number) (t .bar) D
 
 pub coming-up : (P : Past) (s : State) (D : Disk) → Consistent P s → Filed (s .number) (s .bar) D → Up P D (comingUp D)
-coming-up P s D k f = go (eqb (D .number) 1) refl
+coming-up P s D k f =
+    record {
+      consistent =
+          record {
+            used = λ v c h. used-moved (sym (f .bar)) (omega (arith, k .numbers, f .number)) (k .used v c h);
+            known = go (eqb (D .number) 1) refl;
+            last = elim (k .last) [ inl z ↦ inl z | inr z ↦ inr (record { bar = z .bar ∙ sym (f .bar); content = z .content; used = z .used }) ];
+            bar = omega (arith, k .bar, k .numbers, f .number, f .bar);
+            numbers = omega arith;
+          };
+      filed = record { number = omega arith; bar = refl };
+    }
   where
-    again : State
-    again = record { known = unsure; bar = D .bar; next = D .number; number = D .number }
-
-    go : (b : Bool) → eqb (D .number) 1 ≡ b → Up P D (cond b firstState (record { known = unsure; bar = D .bar; next = D .number; number = D .number }))
-    go false e =
-        record {
-            consistent =
-                record {
-                    used = λ v c h. used-moved (sym (f .bar)) (omega (arith, k .numbers, f .number)) (k .used v c h); known = tt;
-                    last = elim (k .last) [ inl z ↦ inl z | inr z ↦ inr (record { bar = z .bar ∙ sym (f .bar); content = z .content; used = z .used }) ];
-                    bar = omega (arith, k .bar, k .numbers, f .number, f .bar); numbers = omega arith };
-            filed = record { number = omega arith; bar = refl } }
+    -- with no file no version is used
+    go : (b : Bool) → eqb (D .number) 1 ≡ b → Knowing P (comingUp D) (cond b (counts 0) unsure)
+    go false e = tt
     go true e =
         let one : D .number ≡ 1 = eqb-true (D .number) 1 e in
         let low : s .next ≤ 1 = omega (arith, k .numbers, f .number) in
-        let none′ : (v : ℕ) (c : List ℕ) → P .content v ≡ Some c → ⊥ = none-used P s k low in
-        let zero′ : P .last ≡ 0 = elim (k .last) [ inl z ↦ z | inr z ↦ absurd (none′ (P .last) (z .content) (z .used)) ] in
-        record {
-            consistent = record { used = λ v c h. absurd (none′ v c h); known = sym zero′; last = inl zero′; bar = omega arith; numbers = omega arith };
-            filed = record { number = omega arith; bar = omega (arith, k .bar, f .bar) } }
-
--- The next number after a stop isn't lower.
-up-next : (s : State) (D : Disk) → s .next ≤ s .number → s .number ≤ D .number → (s .next ≤ comingUp D .next) × (s .number ≤ comingUp D .number)
-up-next s D a b = go (eqb (D .number) 1) refl
-  where
-    go : (t : Bool) → eqb (D .number) 1 ≡ t → (s .next ≤ cond t firstState (record { known = unsure; bar = D .bar; next = D .number; number = D .number }) .next) × (s .number ≤ cond t firstState (record { known = unsure; bar = D .bar; next = D .number; number = D .number }) .number)
-    go false e = (omega arith, omega arith)
-    go true e = let one = eqb-true (D .number) 1 e in (omega arith, omega arith)
+        elim (k .last) [ inl z ↦ sym z | inr z ↦ absurd (none-used P s k low (P .last) (z .content) (z .used)) ]
 
 module _ (S : Site) (L : Laws S) (w : World) (I : Inv S w) where
   -- a cut leads where gentle acts lead
@@ -93,8 +83,7 @@ module _ (S : Site) (L : Laws S) (w : World) (I : Inv S w) where
   stopping : (D′ : Disk) → Goes S (w .past .content) (w .past .last) (w .state .number) (w .state .bar) (w .disk) D′ → Inv S (stopped D′ w) × Fresh w (stopped D′ w)
   stopping D′ g =
       let u = coming-up (w .past) (w .state) D′ (I .consistent) (g .filed) in
-      let n = up-next (w .state) D′ (I .consistent .numbers) (g .filed .number) in
-      (record { sound = g .sound; consistent = u .consistent; filed = u .filed; bearable = bearable-kept S (w .disk) (w .past .last) D′ (w .past .last) (g .keeps) (I .bearable) }, still-fresh (stopped D′ w) refl (n .0) (n .1))
+      (record { sound = g .sound; consistent = u .consistent; filed = u .filed; bearable = bearable-kept S (w .disk) (w .past .last) D′ (w .past .last) (g .keeps) (I .bearable) }, still-fresh (stopped D′ w) refl (omega (arith, I .consistent .numbers, g .filed .number)) (g .filed .number))
 
   same-state : (D′ : Disk) → Sound S (w .past .content) D′ → Filed (w .state .number) (w .state .bar) D′ → Bearable S (record { disk = D′; state = w .state; past = w .past }) → Inv S (record { disk = D′; state = w .state; past = w .past })
   same-state D′ s f b = record { sound = s; consistent = I .consistent; filed = f; bearable = b }
@@ -116,16 +105,22 @@ module _ (S : Site) (L : Laws S) (w : World) (I : Inv S w) where
       record { inv = t .0; sequel = record { older = inl refl; fresh = t .1; unweakened = λ _ d l h. h } }
   happens (others next number inFile) m =
       record {
-          inv =
-              record {
-                  sound = record { reads = I .sound .reads; right = I .sound .right };
-                  consistent =
-                      record {
-                          used = λ v c h. used-moved refl (m .later) (I .consistent .used v c h); known = known′ (w .state .known) (I .consistent .known);
-                          last = elim (I .consistent .last) [ inl z ↦ inl z | inr z ↦ inr (record { bar = z .bar; content = z .content; used = z .used }) ];
-                          bar = omega (arith, I .consistent .bar, m .later); numbers = m .below };
-                  filed = record { number = m .filed; bar = I .filed .bar }; bearable = I .bearable };
-          sequel = record { older = inl refl; fresh = still-fresh (after S (others next number inFile) w) refl (m .later) (m .higher); unweakened = λ _ d l h. h } }
+        inv =
+            record {
+              sound = record { reads = I .sound .reads; right = I .sound .right };
+              consistent =
+                  record {
+                    used = λ v c h. used-moved refl (m .later) (I .consistent .used v c h);
+                    known = known′ (w .state .known) (I .consistent .known);
+                    last = elim (I .consistent .last) [ inl z ↦ inl z | inr z ↦ inr (record { bar = z .bar; content = z .content; used = z .used }) ];
+                    bar = omega (arith, I .consistent .bar, m .later);
+                    numbers = m .below;
+                  };
+              filed = record { number = m .filed; bar = I .filed .bar };
+              bearable = I .bearable;
+            };
+        sequel = record { older = inl refl; fresh = still-fresh (after S (others next number inFile) w) refl (m .later) (m .higher); unweakened = λ _ d l h. h };
+      }
     where
       t : State
       t = record { known = w .state .known; bar = w .state .bar; next = next; number = number }
@@ -138,16 +133,19 @@ module _ (S : Site) (L : Laws S) (w : World) (I : Inv S w) where
       let z = step-well S L w I c (m .0) in
       let g = cut-mild (outcomeOf S w c .acts) n left (z .mild) (m .1) in
       record {
-          inv = same-state (without d (cut S (outcomeOf S w c .acts) n left (w .disk))) (record { reads = g .sound .reads; right = g .sound .right }) (record { number = g .filed .number; bar = g .filed .bar }) (m .2);
-          sequel = record { older = inl refl; fresh = still-fresh (after S (failing c n left d) w) refl (omega arith) (omega arith); unweakened = λ o. absurd o } }
+        inv = same-state (without d (cut S (outcomeOf S w c .acts) n left (w .disk))) (record { reads = g .sound .reads; right = g .sound .right }) (record { number = g .filed .number; bar = g .filed .bar }) (m .2);
+        sequel = record { older = inl refl; fresh = still-fresh (after S (failing c n left d) w) refl (omega arith) (omega arith); unweakened = λ o. absurd o };
+      }
   happens (goesOut d) m =
       record {
-          inv = same-state (without d (w .disk)) (record { reads = I .sound .reads; right = I .sound .right }) (record { number = I .filed .number; bar = I .filed .bar }) m;
-          sequel = record { older = inl refl; fresh = still-fresh (after S (goesOut d) w) refl (omega arith) (omega arith); unweakened = λ o. absurd o } }
+        inv = same-state (without d (w .disk)) (record { reads = I .sound .reads; right = I .sound .right }) (record { number = I .filed .number; bar = I .filed .bar }) m;
+        sequel = record { older = inl refl; fresh = still-fresh (after S (goesOut d) w) refl (omega arith) (omega arith); unweakened = λ o. absurd o };
+      }
   happens (returns d what) m =
       record {
-          inv = same-state (bearing d what (w .disk)) (record { reads = reads′; right = I .sound .right }) (record { number = I .filed .number; bar = I .filed .bar }) (m .1);
-          sequel = record { older = inl refl; fresh = still-fresh (after S (returns d what) w) refl (omega arith) (omega arith); unweakened = λ o. absurd o } }
+        inv = same-state (bearing d what (w .disk)) (record { reads = reads′; right = I .sound .right }) (record { number = I .filed .number; bar = I .filed .bar }) (m .1);
+        sequel = record { older = inl refl; fresh = still-fresh (after S (returns d what) w) refl (omega arith) (omega arith); unweakened = λ o. absurd o };
+      }
     where
       reads′ : (a k : ℕ) → OnceBegun (w .disk .once a k) (S .format .decode a (cond (eqb a d) (what k) (w .disk .bytes a k)))
       reads′ a k = go (eqb a d) refl
@@ -160,10 +158,11 @@ module _ (S : Site) (L : Laws S) (w : World) (I : Inv S w) where
 pub first-inv : (S : Site) (w : World) → First S w → Inv S w
 first-inv S w f =
     record {
-        sound = record { reads = λ d k. subst (λ s. OnceBegun (w .disk .once d k) s) (sym (f .nothing d k)) tt; right = λ d k v p m. absurd (List·Memᴰ·not-nil (subst (λ l. List·Memᴰ (v, p) l) (f .unwritten d k) m)) };
-        consistent = subst (Consistent (w .past)) (sym (f .state)) (record { used = λ v c h. absurd (none-some (sym (f .unused v) ∙ h)); known = sym (f .unfinished); last = inl (f .unfinished); bar = omega arith; numbers = omega arith });
-        filed = record { number = subst (λ (s : State). s .number ≤ w .disk .number) (sym (f .state)) (omega (arith, f .number)); bar = f .bar ∙ ap (λ (s : State). s .bar) (sym (f .state)) };
-        bearable = f .bearable }
+      sound = record { reads = λ d k. subst (λ s. OnceBegun (w .disk .once d k) s) (sym (f .nothing d k)) tt; right = λ d k v p m. absurd (List·Memᴰ·not-nil (subst (λ l. List·Memᴰ (v, p) l) (f .unwritten d k) m)) };
+      consistent = subst (Consistent (w .past)) (sym (f .state)) (record { used = λ v c h. absurd (none-some (sym (f .unused v) ∙ h)); known = sym (f .unfinished); last = inl (f .unfinished); bar = omega arith; numbers = omega arith });
+      filed = record { number = subst (λ (s : State). s .number ≤ w .disk .number) (sym (f .state)) (omega (arith, f .number)); bar = f .bar ∙ ap (λ (s : State). s .bar) (sym (f .state)) };
+      bearable = f .bearable;
+    }
 
 pub run-inv : {S : Site} → Laws S → {w : World} → Run S w → Inv S w
 run-inv {S} L (first {w} f) = first-inv S w f

@@ -58,7 +58,7 @@ module _ (S : Site) (L : Laws S) (w : World) (I : Inv S w) where
   pub last-works : (one : 1 ≤ w .past .last) → contentOf (S .codec) (setup S (w .disk)) (w .past .last) (readingsOf S (w .disk)) ≡ Some (last-used one .content)
   last-works one =
       worked S L (w .past .content) (w .disk) (I .sound) (w .past .last) (last-used one .content) (last-used one .used) (fits (w .past .last) (last-used one .content) (last-used one .used))
-          (pieces-enough S (w .disk) (w .past .last) one (I .bearable))
+      (pieces-enough S (w .disk) (w .past .last) one (I .bearable))
 
   answered : (v : ℕ) (c : List ℕ) → outcomeOf S w World.read .reply ≡ told v c → (v ≡ w .past .last) × LastFinished (w .past) c
   answered v c h = go (w .state .known) refl h
@@ -93,22 +93,26 @@ module _ (S : Site) (L : Laws S) (w : World) (I : Inv S w) where
       let same = counted v e in
       let one′ : 1 ≤ w .past .last = omega arith in
       let c = last-used one′ .content in
-      let k : contentOf (S .codec) (setup S (w .disk)) v (readingsOf S (w .disk)) ≡ Some c = subst (λ x. contentOf (S .codec) (setup S (w .disk)) x (readingsOf S (w .disk)) ≡ Some c) (sym same) (last-works one′) in
-      (c,
-      subst (λ y. Steps.reading (S .codec) (setup S (w .disk)) (w .state) (readingsOf S (w .disk)) y .reply ≡ told v c) (sym e)
-          (subst (λ b. cond b (Steps.tell (w .state) none) (Steps.readAs (w .state) v (contentOf (S .codec) (setup S (w .disk)) v (readingsOf S (w .disk)))) .reply ≡ told v c) (sym (ne-eqb v 0 (λ z. omega arith)))
-              (subst (λ o. Steps.readAs (w .state) v o .reply ≡ told v c) (sym k) refl)))
+      let k : contentOf (S .codec) (setup S (w .disk)) v (readingsOf S (w .disk)) ≡ Some c = subst (λ x. contentOf (S .codec) (setup S (w .disk)) x (readingsOf S (w .disk)) ≡ Some c) (sym same) (last-works one′) in (
+        c,
+        subst (λ y. Steps.reading (S .codec) (setup S (w .disk)) (w .state) (readingsOf S (w .disk)) y .reply ≡ told v c) (sym e)
+            (subst (λ b. cond b (Steps.tell (w .state) none) (Steps.readAs (w .state) v (contentOf (S .codec) (setup S (w .disk)) v (readingsOf S (w .disk)))) .reply ≡ told v c) (sym (ne-eqb v 0 (λ z. omega arith)))
+            (subst (λ o. Steps.readAs (w .state) v o .reply ≡ told v c) (sym k) refl)),
+      )
 
   pub safe : Safe S w
   safe =
       record {
-          enough = enough;
-          recovers = λ one. record { content = last-used one .content; finished = last-used one .used; any = any-work S L (w .past .content) (w .disk) (I .sound) (w .past .last) (last-used one .content) (last-used one .used) (fits (w .past .last) (last-used one .content) (last-used one .used)) };
-          counted = counted; answered = answered; answers = answers;
-          oneVersion = λ v r m. one-version v r (mem-take (S .need) (piecesOf v (readingsOf S (w .disk))) m);
-          unused = λ v c h. let u = I .consistent .used v c h in record { next = u .below; file = omega (arith, u .below, I .consistent .numbers, I .filed .number) };
-          begun = I .sound .reads;
-          noFile = λ e. nothing-in (readingsOf S (w .disk)) (λ r m. let q = reading-right S L (w .past .content) (w .disk) (I .sound) m in let u = I .consistent .used (r .version) (q .whole) (q .used) in omega (arith, u .one, u .below, I .consistent .numbers, I .filed .number)) }
+        enough = enough;
+        recovers = λ one. record { content = last-used one .content; finished = last-used one .used; any = any-work S L (w .past .content) (w .disk) (I .sound) (w .past .last) (last-used one .content) (last-used one .used) (fits (w .past .last) (last-used one .content) (last-used one .used)) };
+        counted = counted;
+        answered = answered;
+        answers = answers;
+        oneVersion = λ v r m. one-version v r (mem-take (S .need) (piecesOf v (readingsOf S (w .disk))) m);
+        unused = λ v c h. let u = I .consistent .used v c h in record { next = u .below; file = omega (arith, u .below, I .consistent .numbers, I .filed .number) };
+        begun = I .sound .reads;
+        noFile = λ e. nothing-in (readingsOf S (w .disk)) (λ r m. let q = reading-right S L (w .past .content) (w .disk) (I .sound) m in let u = I .consistent .used (r .version) (q .whole) (q .used) in omega (arith, u .one, u .below, I .consistent .numbers, I .filed .number));
+      }
     where
       one-version : (v : ℕ) (r : Reading) → List·Memᴰ r (piecesOf v (readingsOf S (w .disk))) → OneVersion S w v r
       one-version v r m =

@@ -45,8 +45,9 @@ all-have (suc n) isIn v rs h d l e = go (cases-eq d n) (all-have n isIn v rs (q 
     go (inr z) f = f (omega arith) e
     go (inl z) f =
         elim (or-cases (not (isIn n)) (holder n v rs) (q .0)) [
-            inl y ↦ absurd (true≢false (sym (subst (λ x. isIn x ≡ true) z e) ∙ not-true (isIn n) y))
-            | inr y ↦ subst (λ x. holder x v rs ≡ true) (sym z) y ]
+          | inl y ↦ absurd (true≢false (sym (subst (λ x. isIn x ≡ true) z e) ∙ not-true (isIn n) y))
+          | inr y ↦ subst (λ x. holder x v rs ≡ true) (sym z) y
+        ]
 
 pub in-howMany : (n : ℕ) (p : ℕ → Bool) → howManyIn n p ≡ howMany n p
 unfolding howManyIn howMany
@@ -55,7 +56,7 @@ in-howMany (suc n) p = ap (λ x. cond (p n) 1 0 + x) (in-howMany n p)
 
 -- The readings that a rule names and that aren't of the version last finished can be taken away gently.
 clearable : (S : Site) (D : Disk) (last : ℕ) (rule : Reading → Bool) → ((r : Reading) → rule r ≡ true → (last ≡ 0) ⊎ (r .version ≡ last → ⊥)) →
-  (m b : ℕ) (r : Reading) → List·Memᴰ r (kept-by rule (readingsOf S D)) → Clears S last (filing m b D) (r .drive) (r .place)
+    (m b : ℕ) (r : Reading) → List·Memᴰ r (kept-by rule (readingsOf S D)) → Clears S last (filing m b D) (r .drive) (r .place)
 clearable S D last rule h m b r k =
     let q = mem-kept rule (readingsOf S D) k in
     let z = mem-read S D (q .0) in
@@ -84,7 +85,7 @@ module _ (S : Site) (L : Laws S) (w : World) (I : Inv S w) where
       z : AllGentle S (w .past .content) (w .past .last) (w .state .number) (w .state .bar) (reserve (w .state)) (w .disk) × Goes S (w .past .content) (w .past .last) (raised (w .state)) (w .state .bar) (w .disk) (performAll S (reserve (w .state)) (w .disk))
       z =
           subst (λ l. AllGentle S (w .past .content) (w .past .last) (w .state .number) (w .state .bar) l (w .disk) × Goes S (w .past .content) (w .past .last) (raised (w .state)) (w .state .bar) (w .disk) (performAll S l (w .disk))) (append-nil (reserve (w .state)))
-              (reserved S L w I [] (λ low m b. nothing low (filing m b (w .disk))))
+          (reserved S L w I [] (λ low m b. nothing low (filing m b (w .disk))))
         where
           nothing : (low : ℕ) (D : Disk) → AllGentle S (w .past .content) (w .past .last) low (w .state .bar) [] D
           nothing low D = clears-gentle S L (w .past .content) (w .past .last) low (w .state .bar) [] D (λ r m. absurd (List·Memᴰ·not-nil m))
@@ -97,11 +98,11 @@ module _ (S : Site) (L : Laws S) (w : World) (I : Inv S w) where
 
   -- writing one piece of a used version to a spare place
   unfolded-write : (k : Knowledge) → w .state .known ≡ k → (r : Reply) (d v x : ℕ) (c : List ℕ) → d < S .drives → Spare S (w .disk) (w .past .last) d x → w .past .content v ≡ Some c →
-    Well S w k (record { reply = r; acts = writeSlot d x (S .codec .encode d v (S .codec .pieceOf d c)) ∷ []; state = w .state })
+      Well S w k (record { reply = r; acts = writeSlot d x (S .codec .encode d v (S .codec .pieceOf d c)) ∷ []; state = w .state })
   unfolding AllGentle
   unfolded-write k e r d v x c l spare u =
       acting S L w I k e r (writeSlot d x (S .codec .encode d v (S .codec .pieceOf d c)) ∷ [])
-          (record { inside = l; spare = spare; version = v; whole = c; used = u; fits = fits v c u; small = I .consistent .used v c u .small; bytes = refl }, tt)
+      (record { inside = l; spare = spare; version = v; whole = c; used = u; fits = fits v c u; small = I .consistent .used v c u .small; bytes = refl }, tt)
 
   drive-in : (d : ℕ) → not (not (w .disk .out d)) ≡ false → w .disk .out d ≡ false
   drive-in d h = go (w .disk .out d) h
@@ -130,7 +131,7 @@ module _ (S : Site) (L : Laws S) (w : World) (I : Inv S w) where
   writing-well d l (counts v) e = idle S L w I (counts v) e (refused NotBeingWritten)
   writing-well d l (writing o v c) e =
       unless-elim (Well S w (writing o v c)) (w .state) (not (not (w .disk .out d))) DriveOut (Steps.writeAt (S .codec) (w .state) d v c done (placeFor places d v (readingsOf S (w .disk)))) (idle S L w I (writing o v c) e (refused DriveOut))
-          (λ h. write-at (writing o v c) e done d v c l (known-writing o v c e .used) (placeFor places d v (readingsOf S (w .disk))) (λ x p. place-spare S (w .disk) (w .past .last) d v x l (drive-in d h) (writing-last o v c e) p))
+      (λ h. write-at (writing o v c) e done d v c l (known-writing o v c e .used) (placeFor places d v (readingsOf S (w .disk))) (λ x p. place-spare S (w .disk) (w .past .last) d v x l (drive-in d h) (writing-last o v c e) p))
 
   write-well : (d : ℕ) → Well S w (w .state .known) (Steps.write (S .codec) (setup S (w .disk)) (w .state) d (readingsOf S (w .disk)))
   write-well d = unless-elim (Well S w (w .state .known)) (w .state) (leb (S .drives) d) NoSuch (Steps.writingTo (S .codec) (setup S (w .disk)) (w .state) d (readingsOf S (w .disk)) (w .state .known)) (idle S L w I (w .state .known) refl (refused NoSuch)) (λ h. writing-well d (leb-false (S .drives) d h) (w .state .known) refl)
@@ -153,14 +154,14 @@ module _ (S : Site) (L : Laws S) (w : World) (I : Inv S w) where
   taking-away : (k : Knowledge) → w .state .known ≡ k → (rule : Reading → Bool) → ((r : Reading) → rule r ≡ true → (w .past .last ≡ 0) ⊎ (r .version ≡ w .past .last → ⊥)) → Well S w k (Steps.takeAway (w .state) rule (readingsOf S (w .disk)))
   taking-away k e rule h =
       acting S L w I k e (removed (length (kept-by rule (readingsOf S (w .disk))))) (clears rule (readingsOf S (w .disk)))
-          (clears-gentle S L (w .past .content) (w .past .last) (w .state .number) (w .state .bar) (kept-by rule (readingsOf S (w .disk))) (w .disk) (clearable S (w .disk) (w .past .last) rule h (w .disk .number) (w .disk .bar)))
+      (clears-gentle S L (w .past .content) (w .past .last) (w .state .number) (w .state .bar) (kept-by rule (readingsOf S (w .disk))) (w .disk) (clearable S (w .disk) (w .past .last) rule h (w .disk .number) (w .disk .bar)))
 
   tidying-well : (d : ℕ) (k : Knowledge) → w .state .known ≡ k → Well S w k (Steps.tidying (setup S (w .disk)) (w .state) d (readingsOf S (w .disk)) k)
   tidying-well d unsure e = idle S L w I unsure e (refused Unsure)
   tidying-well d (writing o v c) e = idle S L w I (writing o v c) e (refused BeingWritten)
   tidying-well d (counts v) e =
       unless-elim (Well S w (counts v)) (w .state) (not (not (w .disk .out d))) DriveOut (Steps.takeAway (w .state) (λ r. eqb (r .drive) d && not (eqb (r .version) v)) (readingsOf S (w .disk))) (idle S L w I (counts v) e (refused DriveOut))
-          (λ h. taking-away (counts v) e (λ r. eqb (r .drive) d && not (eqb (r .version) v)) other)
+      (λ h. taking-away (counts v) e (λ r. eqb (r .drive) d && not (eqb (r .version) v)) other)
     where
       other : (r : Reading) → (eqb (r .drive) d && not (eqb (r .version) v)) ≡ true → (w .past .last ≡ 0) ⊎ (r .version ≡ w .past .last → ⊥)
       other r h = inr (λ q. eqb-false (r .version) v (not-true (eqb (r .version) v) (and-parts (eqb (r .drive) d) (not (eqb (r .version) v)) h .1)) (q ∙ sym (known-counts v e)))
@@ -171,7 +172,7 @@ module _ (S : Site) (L : Laws S) (w : World) (I : Inv S w) where
   sweep-well : (d : ℕ) → Well S w (w .state .known) (Steps.sweep (setup S (w .disk)) (w .state) d (readingsOf S (w .disk)))
   sweep-well d =
       unless-elim (Well S w (w .state .known)) (w .state) (leb (S .drives) d) NoSuch (unless (w .state) (not (not (w .disk .out d))) DriveOut swept) (idle S L w I (w .state .known) refl (refused NoSuch))
-          (λ h. unless-elim (Well S w (w .state .known)) (w .state) (not (not (w .disk .out d))) DriveOut swept (idle S L w I (w .state .known) refl (refused DriveOut)) (λ g. taking-away (w .state .known) refl (λ r. eqb (r .drive) d && ltb (r .version) (w .state .bar)) other))
+      (λ h. unless-elim (Well S w (w .state .known)) (w .state) (not (not (w .disk .out d))) DriveOut swept (idle S L w I (w .state .known) refl (refused DriveOut)) (λ g. taking-away (w .state .known) refl (λ r. eqb (r .drive) d && ltb (r .version) (w .state .bar)) other))
     where
       swept : Outcome
       swept = Steps.takeAway (w .state) (λ r. eqb (r .drive) d && ltb (r .version) (w .state .bar)) (readingsOf S (w .disk))
@@ -226,25 +227,31 @@ module _ (S : Site) (L : Laws S) (w : World) (I : Inv S w) where
   giving-up-well (counts v) e = idle S L w I (counts v) e (refused NotBeingWritten)
   giving-up-well (writing o v c) e =
       record {
-          mild = inl tt;
-          inv = record { sound = I .sound; consistent = record { used = λ x y h. let u = I .consistent .used x y h in record { content = u .content; one = u .one; below = u .below; small = u .small; backed = u .backed }; known = tt; last = elim (I .consistent .last) [ inl f ↦ inl f | inr f ↦ inr (record { bar = f .bar; content = f .content; used = f .used }) ]; bar = I .consistent .bar; numbers = I .consistent .numbers }; filed = record { number = I .filed .number; bar = I .filed .bar }; bearable = I .bearable };
-          keeps = λ x l h. h; older = inl refl; fresh = record { kept = λ x y h. h; new = λ x y h. inl h; next = omega arith; number = omega arith } }
+        mild = inl tt;
+        inv = record { sound = I .sound; consistent = record { used = λ x y h. let u = I .consistent .used x y h in record { content = u .content; one = u .one; below = u .below; small = u .small; backed = u .backed }; known = tt; last = elim (I .consistent .last) [ inl f ↦ inl f | inr f ↦ inr (record { bar = f .bar; content = f .content; used = f .used }) ]; bar = I .consistent .bar; numbers = I .consistent .numbers }; filed = record { number = I .filed .number; bar = I .filed .bar }; bearable = I .bearable };
+        keeps = λ x l h. h;
+        older = inl refl;
+        fresh = record { kept = λ x y h. h; new = λ x y h. inl h; next = omega arith; number = omega arith };
+      }
 
   -- finish
   finished : (o v : ℕ) (c : List ℕ) → w .state .known ≡ writing o v c → allHave (S .drives) (λ d. not (w .disk .out d)) v (readingsOf S (w .disk)) ≡ true → S .need ≤ howManyIn (S .drives) (λ d. not (w .disk .out d)) →
-    Well S w (writing o v c) (record { reply = isVersion v; acts = replaceFile (w .state .number) v ∷ []; state = counting (w .state) v })
+      Well S w (writing o v c) (record { reply = isVersion v; acts = replaceFile (w .state .number) v ∷ []; state = counting (w .state) v })
   unfolding performAll
   finished o v c e all enough =
       record {
-          mild = inr (record { number = w .state .number; bar = v; is = refl });
-          inv =
-              record {
-                  sound = record { reads = I .sound .reads; right = I .sound .right };
-                  consistent = record { used = used′; known = refl; last = inr (record { bar = refl; content = c; used = z .used }); bar = I .consistent .used v c (z .used) .below; numbers = I .consistent .numbers };
-                  filed = record { number = omega arith; bar = refl };
-                  bearable = bearable′ };
-          keeps = λ x l h. has-it x l (h .isIn); older = inr (record { content = c; finished = z .used; backed = I .consistent .used v c (z .used) .backed (omega (arith, z .above)) });
-          fresh = record { kept = λ x y h. h; new = λ x y h. inl h; next = omega arith; number = omega arith } }
+        mild = inr (record { number = w .state .number; bar = v; is = refl });
+        inv =
+            record {
+              sound = record { reads = I .sound .reads; right = I .sound .right };
+              consistent = record { used = used′; known = refl; last = inr (record { bar = refl; content = c; used = z .used }); bar = I .consistent .used v c (z .used) .below; numbers = I .consistent .numbers };
+              filed = record { number = omega arith; bar = refl };
+              bearable = bearable′;
+            };
+        keeps = λ x l h. has-it x l (h .isIn);
+        older = inr (record { content = c; finished = z .used; backed = I .consistent .used v c (z .used) .backed (omega (arith, z .above)) });
+        fresh = record { kept = λ x y h. h; new = λ x y h. inl h; next = omega arith; number = omega arith };
+      }
     where
       z : Writing (w .past) (w .state) v c
       z = known-writing o v c e
@@ -260,8 +267,12 @@ module _ (S : Site) (L : Laws S) (w : World) (I : Inv S w) where
           let u = I .consistent .used x y h in
           let below = z .highest x y h in
           record {
-              content = u .content; one = u .one; below = u .below; small = u .small;
-              backed = λ (k : v ≤ x). inl (record { finished = I .consistent .used v c (z .used) .one; content = subst (λ t. w .past .content t ≡ Some y) (let same : x ≡ v = omega arith in same) h }) }
+            content = u .content;
+            one = u .one;
+            below = u .below;
+            small = u .small;
+            backed = λ (k : v ≤ x). inl (record { finished = I .consistent .used v c (z .used) .one; content = subst (λ t. w .past .content t ≡ Some y) (let same : x ≡ v = omega arith in same) h });
+          }
 
       has-it : (x : ℕ) → x < S .drives → w .disk .out x ≡ false → Strong S D′ v x
       has-it x l i =
@@ -287,8 +298,8 @@ module _ (S : Site) (L : Laws S) (w : World) (I : Inv S w) where
   finishing-well (counts v) e = idle S L w I (counts v) e (refused NotBeingWritten)
   finishing-well (writing o v c) e =
       unless-elim (Well S w (writing o v c)) (w .state) (not (allHave (S .drives) (λ d. not (w .disk .out d)) v (readingsOf S (w .disk)))) NotEverywhere rest (idle S L w I (writing o v c) e (refused NotEverywhere))
-          (λ h. unless-elim (Well S w (writing o v c)) (w .state) (ltb (howManyIn (S .drives) (λ d. not (w .disk .out d))) (S .need)) TooFewIn now (idle S L w I (writing o v c) e (refused TooFewIn))
-              (λ g. finished o v c e (not-false (allHave (S .drives) (λ d. not (w .disk .out d)) v (readingsOf S (w .disk))) h) (ltb-false (howManyIn (S .drives) (λ d. not (w .disk .out d))) (S .need) g)))
+      (λ h. unless-elim (Well S w (writing o v c)) (w .state) (ltb (howManyIn (S .drives) (λ d. not (w .disk .out d))) (S .need)) TooFewIn now (idle S L w I (writing o v c) e (refused TooFewIn))
+      (λ g. finished o v c e (not-false (allHave (S .drives) (λ d. not (w .disk .out d)) v (readingsOf S (w .disk))) h) (ltb-false (howManyIn (S .drives) (λ d. not (w .disk .out d))) (S .need) g)))
     where
       now : Outcome
       now = record { reply = isVersion v; acts = replaceFile (w .state .number) v ∷ []; state = counting (w .state) v }
@@ -308,28 +319,35 @@ module _ (S : Site) (L : Laws S) (w : World) (I : Inv S w) where
           let q = works-out S L (w .past .content) (w .disk) (I .sound) fits (w .past .last) (e .content) k in
           let v : q .reading .version ≡ w .past .last = q .version in
           let c =
-              highest-covers (S .codec) (setup S (w .disk)) (w .state .bar) (readingsOf S (w .disk)) None (readingsOf S (w .disk)) (q .among) (e .content) (omega (arith, v, u .one)) (omega (arith, v, e .bar))
-                  (subst (λ x. contentOf (S .codec) (setup S (w .disk)) x (readingsOf S (w .disk)) ≡ Some (e .content)) (sym v) k)
+          highest-covers (S .codec) (setup S (w .disk)) (w .state .bar) (readingsOf S (w .disk)) None (readingsOf S (w .disk)) (q .among) (e .content) (omega (arith, v, u .one)) (omega (arith, v, e .bar))
+          (subst (λ x. contentOf (S .codec) (setup S (w .disk)) x (readingsOf S (w .disk)) ≡ Some (e .content)) (sym v) k)
           in
           subst (AtLeast (q .reading .version)) h c
 
   settled-none : w .state .known ≡ unsure → w .past .last ≡ 0 →
-    Well S w unsure (record { reply = none; acts = replaceFile (raised (w .state)) (w .state .next) ∷ []; state = record { known = counts 0; bar = w .state .next; next = w .state .next + 1; number = raised (w .state) } })
+      Well S w unsure (record { reply = none; acts = replaceFile (raised (w .state)) (w .state .next) ∷ []; state = record { known = counts 0; bar = w .state .next; next = w .state .next + 1; number = raised (w .state) } })
   unfolding performAll
   settled-none e zero′ =
       record {
-          mild = inr (record { number = raised (w .state); bar = w .state .next; is = refl });
-          inv =
-              record {
-                  sound = record { reads = I .sound .reads; right = I .sound .right };
-                  consistent =
-                      record {
-                          used = λ x y h. let u = I .consistent .used x y h in record { content = u .content; one = u .one; below = omega (arith, u .below); small = u .small; backed = λ (k : w .state .next ≤ x). absurd (omega (arith, u .below)) };
-                          known = sym zero′; last = inl zero′; bar = omega arith; numbers = raised-above (w .state) (I .consistent .numbers) .0 };
-                  filed = record { number = omega arith; bar = refl };
-                  bearable = bearable-kept S (w .disk) (w .past .last) (filing (raised (w .state)) (w .state .next) (w .disk)) (w .past .last) kept (I .bearable) };
-          keeps = kept; older = inl refl;
-          fresh = record { kept = λ x y h. h; new = λ x y h. inl h; next = omega arith; number = raised-above (w .state) (I .consistent .numbers) .1 } }
+        mild = inr (record { number = raised (w .state); bar = w .state .next; is = refl });
+        inv =
+            record {
+              sound = record { reads = I .sound .reads; right = I .sound .right };
+              consistent =
+                  record {
+                    used = λ x y h. let u = I .consistent .used x y h in record { content = u .content; one = u .one; below = omega (arith, u .below); small = u .small; backed = λ (k : w .state .next ≤ x). absurd (omega (arith, u .below)) };
+                    known = sym zero′;
+                    last = inl zero′;
+                    bar = omega arith;
+                    numbers = raised-above (w .state) (I .consistent .numbers) .0;
+                  };
+              filed = record { number = omega arith; bar = refl };
+              bearable = bearable-kept S (w .disk) (w .past .last) (filing (raised (w .state)) (w .state .next) (w .disk)) (w .past .last) kept (I .bearable);
+            };
+        keeps = kept;
+        older = inl refl;
+        fresh = record { kept = λ x y h. h; new = λ x y h. inl h; next = omega arith; number = raised-above (w .state) (I .consistent .numbers) .1 };
+      }
     where
       kept : Keeps S (w .disk) (w .past .last) (filing (raised (w .state)) (w .state .next) (w .disk)) (w .past .last)
       kept x l h = refiled S (w .disk) (w .past .last) (raised (w .state)) (w .state .next) x h
@@ -361,7 +379,7 @@ module _ (S : Site) (L : Laws S) (w : World) (I : Inv S w) where
   settling-well (writing o v c) e = idle S L w I (writing o v c) e (refused NotUnsure)
   settling-well unsure e =
       unless-elim (Well S w unsure) (w .state) (leb lastNumber (w .state .next)) NoMoreVersions (Steps.settlingOn (w .state) (readingsOf S (w .disk)) best) (idle S L w I unsure e (refused NoMoreVersions))
-          (λ h. go (leb-false lastNumber (w .state .next) h) best refl (highest-good (S .codec) (setup S (w .disk)) (w .state .bar) (readingsOf S (w .disk)) None (readingsOf S (w .disk)) tt))
+      (λ h. go (leb-false lastNumber (w .state .next) h) best refl (highest-good (S .codec) (setup S (w .disk)) (w .state .bar) (readingsOf S (w .disk)) None (readingsOf S (w .disk)) tt))
     where
       best : Found
       best = highest (S .codec) (setup S (w .disk)) (w .state .bar) (readingsOf S (w .disk)) None (readingsOf S (w .disk))

@@ -84,15 +84,17 @@ raised-above s h = go (leb (s .number) (s .next)) refl
 module _ (S : Site) (L : Laws S) (w : World) (I : Inv S w) where
   -- A step that only acts gently.
   pub acting : (k : Knowledge) → w .state .known ≡ k → (r : Reply) (as′ : List Act) → AllGentle S (w .past .content) (w .past .last) (w .state .number) (w .state .bar) as′ (w .disk) →
-    Well S w k (record { reply = r; acts = as′; state = w .state })
+      Well S w k (record { reply = r; acts = as′; state = w .state })
   acting k e r as′ g =
       subst (λ (P : Past). WellDone S w as′ (record { disk = performAll S as′ (w .disk); state = w .state; past = P }))
-          (sym (subst (λ y. noted k y (w .past) ≡ w .past) (sym e) (noted-same k (w .past))))
-          (record {
-              mild = inl g;
-              inv = record { sound = z .sound; consistent = I .consistent; filed = z .filed; bearable = bearable-kept S (w .disk) (w .past .last) (performAll S as′ (w .disk)) (w .past .last) (z .keeps) (I .bearable) };
-              keeps = z .keeps; older = inl refl;
-              fresh = record { kept = λ v c h. h; new = λ v c h. inl h; next = omega arith; number = omega arith } })
+      (sym (subst (λ y. noted k y (w .past) ≡ w .past) (sym e) (noted-same k (w .past))))
+      (record {
+        mild = inl g;
+        inv = record { sound = z .sound; consistent = I .consistent; filed = z .filed; bearable = bearable-kept S (w .disk) (w .past .last) (performAll S as′ (w .disk)) (w .past .last) (z .keeps) (I .bearable) };
+        keeps = z .keeps;
+        older = inl refl;
+        fresh = record { kept = λ v c h. h; new = λ v c h. inl h; next = omega arith; number = omega arith };
+      })
     where
       z : Goes S (w .past .content) (w .past .last) (w .state .number) (w .state .bar) (w .disk) (performAll S as′ (w .disk))
       z = all-go S L (w .past .content) (w .past .last) (w .state .number) (w .state .bar) as′ (w .disk) (I .sound) (I .filed) g
@@ -103,8 +105,8 @@ module _ (S : Site) (L : Laws S) (w : World) (I : Inv S w) where
 
   -- The file's number is raised where that is due, and then other acts are done.
   pub reserved : (rest : List Act) → ((low m b : ℕ) → AllGentle S (w .past .content) (w .past .last) low (w .state .bar) rest (filing m b (w .disk))) →
-    AllGentle S (w .past .content) (w .past .last) (w .state .number) (w .state .bar) (reserve (w .state) ++ rest) (w .disk) ×
-    Goes S (w .past .content) (w .past .last) (raised (w .state)) (w .state .bar) (w .disk) (performAll S (reserve (w .state) ++ rest) (w .disk))
+      AllGentle S (w .past .content) (w .past .last) (w .state .number) (w .state .bar) (reserve (w .state) ++ rest) (w .disk) ×
+      Goes S (w .past .content) (w .past .last) (raised (w .state)) (w .state .bar) (w .disk) (performAll S (reserve (w .state) ++ rest) (w .disk))
   unfolding AllGentle performAll
   reserved rest g = go (leb (w .state .number) (w .state .next))
     where
@@ -115,40 +117,47 @@ module _ (S : Site) (L : Laws S) (w : World) (I : Inv S w) where
       higher = w .state .number + stride
 
       go : (b : Bool) →
-        AllGentle S (w .past .content) (w .past .last) (w .state .number) (w .state .bar) (cond b (replaceFile (w .state .number + stride) (w .state .bar) ∷ []) [] ++ rest) (w .disk) ×
-        Goes S (w .past .content) (w .past .last) (cond b (w .state .number + stride) (w .state .number)) (w .state .bar) (w .disk) (performAll S (cond b (replaceFile (w .state .number + stride) (w .state .bar) ∷ []) [] ++ rest) (w .disk))
+          AllGentle S (w .past .content) (w .past .last) (w .state .number) (w .state .bar) (cond b (replaceFile (w .state .number + stride) (w .state .bar) ∷ []) [] ++ rest) (w .disk) ×
+          Goes S (w .past .content) (w .past .last) (cond b (w .state .number + stride) (w .state .number)) (w .state .bar) (w .disk) (performAll S (cond b (replaceFile (w .state .number + stride) (w .state .bar) ∷ []) [] ++ rest) (w .disk))
       go false =
           let a = g (w .state .number) (w .disk .number) (w .disk .bar) in
           (a, all-go S L (w .past .content) (w .past .last) (w .state .number) (w .state .bar) rest (w .disk) (I .sound) (I .filed) a)
       go true =
           let h =
-              all-go S L (w .past .content) (w .past .last) (w .state .number + stride) (w .state .bar) rest (filing (w .state .number + stride) (w .state .bar) (w .disk)) (record { reads = I .sound .reads; right = I .sound .right })
-                  (record { number = omega arith; bar = refl }) (g (w .state .number + stride) (w .state .number + stride) (w .state .bar))
-          in
-          ((record { number = omega arith; bar = refl }, g (w .state .number) (w .state .number + stride) (w .state .bar)),
-          record { sound = h .sound; filed = h .filed; keeps = λ x l k. h .keeps x l (refiled S (w .disk) (w .past .last) (w .state .number + stride) (w .state .bar) x k); out = h .out })
+          all-go S L (w .past .content) (w .past .last) (w .state .number + stride) (w .state .bar) rest (filing (w .state .number + stride) (w .state .bar) (w .disk)) (record { reads = I .sound .reads; right = I .sound .right })
+          (record { number = omega arith; bar = refl }) (g (w .state .number + stride) (w .state .number + stride) (w .state .bar))
+          in (
+            (record { number = omega arith; bar = refl }, g (w .state .number) (w .state .number + stride) (w .state .bar)),
+            record { sound = h .sound; filed = h .filed; keeps = λ x l k. h .keeps x l (refiled S (w .disk) (w .past .last) (w .state .number + stride) (w .state .bar) x k); out = h .out },
+          )
 
   -- The next version is begun, for a content that is backed.
   pub starting : (v : ℕ) (c : List ℕ) (begun : List (List ℕ)) (as′ : List Act) → ((x : List ℕ) → List·Memᴰ x (w .past .begun) → List·Memᴰ x begun) → Content c → w .state .next < lastNumber →
-    Backed (record { content = using′ (w .state .next) c (w .past .content); begun = begun; last = w .past .last }) c →
-    AllGentle S (w .past .content) (w .past .last) (w .state .number) (w .state .bar) as′ (w .disk) →
-    Goes S (w .past .content) (w .past .last) (raised (w .state)) (w .state .bar) (w .disk) (performAll S as′ (w .disk)) →
-    WellDone S w as′ (record { disk = performAll S as′ (w .disk); state = writingOn (w .state) v c; past = record { content = using′ (w .state .next) c (w .past .content); begun = begun; last = w .past .last } })
+      Backed (record { content = using′ (w .state .next) c (w .past .content); begun = begun; last = w .past .last }) c →
+      AllGentle S (w .past .content) (w .past .last) (w .state .number) (w .state .bar) as′ (w .disk) →
+      Goes S (w .past .content) (w .past .last) (raised (w .state)) (w .state .bar) (w .disk) (performAll S as′ (w .disk)) →
+      WellDone S w as′ (record { disk = performAll S as′ (w .disk); state = writingOn (w .state) v c; past = record { content = using′ (w .state .next) c (w .past .content); begun = begun; last = w .past .last } })
   starting v c begun as′ more fits small backed g z =
       record {
-          mild = inl g;
-          inv =
-              record {
-                  sound = record { reads = z .sound .reads; right = λ d k x p m. right-still d x p (z .sound .right d k x p m) };
-                  consistent =
-                      record {
-                          used = used′; known = record { used = using-new next c content; above = I .consistent .bar; highest = λ x y h. highest′ x y (using-cases next c content x y h) };
-                          last = elim (I .consistent .last) [ inl e ↦ inl e | inr e ↦ inr (record { bar = e .bar; content = e .content; used = still (w .past .last) (e .content) (e .used) }) ];
-                          bar = omega (arith, I .consistent .bar); numbers = raised-above s (I .consistent .numbers) .0 };
-                  filed = z .filed;
-                  bearable = bearable-kept S (w .disk) (w .past .last) (performAll S as′ (w .disk)) (w .past .last) (z .keeps) (I .bearable) };
-          keeps = z .keeps; older = inl refl;
-          fresh = record { kept = still; new = λ x y h. elim (using-cases next c content x y h) [ inl q ↦ inr (q .0, omega (arith, q .0)) | inr q ↦ inl q ]; next = omega arith; number = raised-above s (I .consistent .numbers) .1 } }
+        mild = inl g;
+        inv =
+            record {
+              sound = record { reads = z .sound .reads; right = λ d k x p m. right-still d x p (z .sound .right d k x p m) };
+              consistent =
+                  record {
+                    used = used′;
+                    known = record { used = using-new next c content; above = I .consistent .bar; highest = λ x y h. highest′ x y (using-cases next c content x y h) };
+                    last = elim (I .consistent .last) [ inl e ↦ inl e | inr e ↦ inr (record { bar = e .bar; content = e .content; used = still (w .past .last) (e .content) (e .used) }) ];
+                    bar = omega (arith, I .consistent .bar);
+                    numbers = raised-above s (I .consistent .numbers) .0;
+                  };
+              filed = z .filed;
+              bearable = bearable-kept S (w .disk) (w .past .last) (performAll S as′ (w .disk)) (w .past .last) (z .keeps) (I .bearable);
+            };
+        keeps = z .keeps;
+        older = inl refl;
+        fresh = record { kept = still; new = λ x y h. elim (using-cases next c content x y h) [ inl q ↦ inr (q .0, omega (arith, q .0)) | inr q ↦ inl q ]; next = omega arith; number = raised-above s (I .consistent .numbers) .1 };
+      }
     where
       s : State
       s = w .state
@@ -181,8 +190,12 @@ module _ (S : Site) (L : Laws S) (w : World) (I : Inv S w) where
           go : ((x ≡ w .state .next) × (c ≡ y)) ⊎ (w .past .content x ≡ Some y) → Used P′ (writingOn (w .state) v c) x y
           go (inl q) =
               record {
-                  content = subst Content (q .1) fits; one = omega (arith, q .0, first′); below = omega (arith, q .0); small = subst (λ t. t < lastNumber) (sym (q .0)) small;
-                  backed = λ _. subst (Backed P′) (q .1) backed }
+                content = subst Content (q .1) fits;
+                one = omega (arith, q .0, first′);
+                below = omega (arith, q .0);
+                small = subst (λ t. t < lastNumber) (sym (q .0)) small;
+                backed = λ _. subst (Backed P′) (q .1) backed;
+              }
           go (inr q) =
               let u = I .consistent .used x y q in
               record { content = u .content; one = u .one; below = omega (arith, u .below); small = u .small; backed = λ l. backed-still y (u .backed l) }

@@ -48,10 +48,10 @@ module _ (S : Site) (L : Laws S) (content : ℕ → Option (List ℕ)) (D : Disk
 
   -- Any readings of one version on different drives, as many as are needed, work out to its content.
   pub any-work : (v : ℕ) (c : List ℕ) → content v ≡ Some c → Content c → (rs : List Reading) → ((r : Reading) → List·Memᴰ r rs → List·Memᴰ r (readingsOf S D) × (r .version ≡ v)) →
-    Distinct (map (λ r. r .drive) rs) → length rs ≡ S .need → S .codec .workOut (map given rs) ≡ Some c
+      Distinct (map (λ r. r .drive) rs) → length rs ≡ S .need → S .codec .workOut (map given rs) ≡ Some c
   any-work v c u f rs h apart enough =
       subst (λ l. S .codec .workOut l ≡ Some c) (sym (given-pieces (S .codec) c rs (λ r m. piece-of v c u (h r m .0) (h r m .1))))
-          (L .works c (map (λ r. r .drive) rs) f apart below (length-map rs (λ r. r .drive) ∙ enough))
+      (L .works c (map (λ r. r .drive) rs) f apart below (length-map rs (λ r. r .drive) ∙ enough))
     where
       below : (d : ℕ) → List·Memᴰ d (map (λ (r : Reading). r .drive) rs) → d < S .drives
       below d m = let q = mem-map (λ (r : Reading). r .drive) rs m in subst (λ x. x < S .drives) (sym (q .2)) (mem-read S D (h (q .0) (q .1) .0) .inside)
@@ -60,9 +60,9 @@ module _ (S : Site) (L : Laws S) (content : ℕ → Option (List ℕ)) (D : Disk
   unfolding contentOf
   worked v c u f enough =
       rw (le-leb (S .need) (length (piecesOf v (readingsOf S D))) enough)
-          (any-work v c u f (take (S .need) (piecesOf v (readingsOf S D))) (λ r m. let q = mem-pieces v (readingsOf S D) (mem-take (S .need) (piecesOf v (readingsOf S D)) m) in (q .0, q .1))
-              (subst Distinct (take-map (λ (r : Reading). r .drive) (S .need) (piecesOf v (readingsOf S D))) (distinct-take (S .need) (map (λ r. r .drive) (piecesOf v (readingsOf S D))) (pieces-apart v (readingsOf S D) (readings-ordered S D))))
-              (length-take-le (S .need) (piecesOf v (readingsOf S D)) enough))
+      (any-work v c u f (take (S .need) (piecesOf v (readingsOf S D))) (λ r m. let q = mem-pieces v (readingsOf S D) (mem-take (S .need) (piecesOf v (readingsOf S D)) m) in (q .0, q .1))
+      (subst Distinct (take-map (λ (r : Reading). r .drive) (S .need) (piecesOf v (readingsOf S D))) (distinct-take (S .need) (map (λ r. r .drive) (piecesOf v (readingsOf S D))) (pieces-apart v (readingsOf S D) (readings-ordered S D))))
+      (length-take-le (S .need) (piecesOf v (readingsOf S D)) enough))
 
   -- What works out is of a used version, a piece of which is in.
   pub record Worked (v : ℕ) (c : List ℕ) : Type 0 where

@@ -126,8 +126,12 @@ without d D = record { bytes = D .bytes; once = D .once; out = λ x. cond (eqb x
 abbrev pub bearing : ℕ → (ℕ → List ℕ) → Disk → Disk
 bearing d what D =
     record {
-        bytes = λ x k. cond (eqb x d) (what k) (D .bytes x k); once = D .once;
-        out = λ x. cond (eqb x d) false (D .out x); number = D .number; bar = D .bar }
+      bytes = λ x k. cond (eqb x d) (what k) (D .bytes x k);
+      once = D .once;
+      out = λ x. cond (eqb x d) false (D .out x);
+      number = D .number;
+      bar = D .bar;
+    }
 
 -- One of so many places of a drive from k on has a piece of the version; some place of it has.
 abbrev pub isVersion : ℕ → Slot → Bool

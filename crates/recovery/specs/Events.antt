@@ -31,12 +31,13 @@ carriedOut S before o w =
 abbrev pub stepped : Site → Call → World → World
 stepped S c w = carriedOut S (w .state .known) (outcomeOf S w c) w
 
--- Coming up after a stop: with a file, the object is unsure, and the next version is the file's number. With none it is a first start.
+-- The state at the first start, with no file: the object counts 0, and the next version is 1.
 abbrev pub firstState : State
 firstState = record { known = counts 0; bar = 0; next = 1; number = 1 }
 
+-- Coming up after a stop: the next version is the file's number, and the object is unsure. With no file it is a first start.
 abbrev pub comingUp : Disk → State
-comingUp D = cond (eqb (D .number) 1) firstState (record { known = unsure; bar = D .bar; next = D .number; number = D .number })
+comingUp D = record { known = cond (eqb (D .number) 1) (counts 0) unsure; bar = D .bar; next = D .number; number = D .number }
 
 abbrev pub stopped : Disk → World → World
 stopped D w = record { disk = D; state = comingUp D; past = w .past }
@@ -48,8 +49,10 @@ onDisk D w = record { disk = D; state = w .state; past = w .past }
 abbrev pub moved : (next number inFile : ℕ) → World → World
 moved next number inFile w =
     record {
-        disk = record { bytes = w .disk .bytes; once = w .disk .once; out = w .disk .out; number = inFile; bar = w .disk .bar };
-        state = record { known = w .state .known; bar = w .state .bar; next = next; number = number }; past = w .past }
+      disk = record { bytes = w .disk .bytes; once = w .disk .once; out = w .disk .out; number = inFile; bar = w .disk .bar };
+      state = record { known = w .state .known; bar = w .state .bar; next = next; number = number };
+      past = w .past;
+    }
 
 pub data Event : Type 0 where
   -- the keeper's: a whole step; one cut short by a stop (all acts done and not told is a whole step and then a stop); a stop between steps

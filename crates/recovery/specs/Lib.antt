@@ -4,3 +4,5 @@ pub mod World
 pub mod Events
 pub mod Promise
 pub mod Progress
+pub mod Store
+pub mod Example

@@ -23,7 +23,7 @@ pub record Recovers (S : Site) (w : World) : Type 0 where
   pub content : List ℕ
   pub finished : w .past .content (w .past .last) ≡ Some content
   pub any : (rs : List Reading) → ((r : Reading) → List·Memᴰ r rs → List·Memᴰ r (readingsOf S (w .disk)) × (r .version ≡ w .past .last)) →
-    Distinct (map (λ r. r .drive) rs) → length rs ≡ S .need → S .codec .workOut (map given rs) ≡ Some content
+      Distinct (map (λ r. r .drive) rs) → length rs ≡ S .need → S .codec .workOut (map given rs) ≡ Some content
 
 -- A piece is of one version, and the right one: the piece of that version's content for its drive.
 pub record OneVersion (S : Site) (w : World) (v : ℕ) (r : Reading) : Type 0 where

@@ -1,6 +1,8 @@
 // What the keeper's steps come to over whole runs, through stops, lost drives and drives that come back. The theorems stand on the contracts of small functions.
 ghost use Rattle.recovery.specs.Promise.{Safety, Onward, TakesHighest};
 ghost use Rattle.recovery.specs.Progress.{GoesOn};
+ghost use Rattle.recovery.specs.Store.{StoreSafety};
+ghost use Rattle.recovery.specs.Example.{Example};
 
 // After every run the version last finished can be worked out, what a read answers is its content, and nothing is worked out of pieces of two versions.
 pub fn safety_stands() -> u8
@@ -26,6 +28,20 @@ pub fn highest_stands() -> u8
 // It can always go on: an unsure object can be settled, every object brought to count, and every lacking piece made anew, by the keeper's own steps.
 pub fn progress_stands() -> u8
     ensures { λ _. ⌜ GoesOn ⌝ }
+{
+    0
+}
+
+// All of it for every object of a store, whose objects share numbers, the file and the drives.
+pub fn store_stands() -> u8
+    ensures { λ _. ⌜ StoreSafety ⌝ }
+{
+    0
+}
+
+// What the promises ask can be met: a run with every kind of event, over a codec that keeps its laws, and the read at its end.
+pub fn example_stands() -> u8
+    ensures { λ _. ⌜ Example ⌝ }
 {
     0
 }
