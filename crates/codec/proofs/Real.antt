@@ -2,7 +2,7 @@
 use mathlib.Core.Bool.{true}
 use mathlib.Core.List.{List, [], _∷_, _++_, map, List·Memᴰ, List·Memᴰ·head, List·Memᴰ·tail}
 use mathlib.Core.Path.{_≡_, refl, sym, ap, subst, _∙_}
-use Prim.Native.Nat.{ℕ, zero, suc, _+_, _-_, _*_, _≤_, _<_}
+use Prim.Native.Nat.{ℕ, zero, suc, _+_, _≤_, _<_}
 use native.Mathlib.Omega.{arith}
 use native.Mathlib.Nat.{suc-mul, div-le-of-le-mul}
 use lib.ListN.{length, drop}
@@ -11,18 +11,18 @@ use Rattle.std.proofs.shelf.Lists.{length-append, length-map}
 use Rattle.std.proofs.shelf.Tests.{cond-true}
 use Rattle.std.specs.shelf.Lists.{All}
 use Rattle.elimination.specs.Polynomial.{Distinct}
-use Rattle.pieces.specs.Rows.{rowsFor, framed, pieceOf}
+use Rattle.pieces.specs.Rows.{rowsFor, pieceOf}
 use Rattle.slots.specs.Layout.{around, pieceRoom, headerOf, bodyOf, bytesOf, recordOf}
 use Rattle.slots.specs.Slot.{hasRoom, written}
 use Rattle.slots.specs.Adler.{adler}
 use Rattle.slots.proofs.Standing.{slots}
 use Rattle.keeper.specs.Real.{onDrives, parts, Fits}
 use Rattle.recovery.specs.Laws.{Laws, Content, Distinct as Apart}
-use Rattle.recovery.specs.Progress.{GoesOn}
-use Rattle.recovery.specs.Promise.{Safety, Onward}
-use Rattle.codec.specs.Stands.{readAs, laid, Setting, site, RealLaws, RealPromise}
+use Rattle.recovery.specs.Promise.{Onward}
+use Rattle.recovery.specs.Store.{siteOf, StoreSafety}
+use Rattle.codec.specs.Stands.{readAs, laid, Setting, depot, RealLaws, RealPromise}
 use Rattle.codec.specs.WorkOut.{workOutOf, SomeWorksOut}
-use Rattle.codec.proofs.Unique.{length-values}
+use Rattle.codec.proofs.Unique.{length-piece}
 
 -- A piece has room in a slot.
 rows-room : (need n : ℕ) → 1 ≤ need → rowsFor need n ≤ 4 + n
@@ -31,9 +31,7 @@ rows-room zero n h = absurd (omega arith)
 rows-room (suc m) n h = div-le-of-le-mul (suc m) (omega (arith, suc-mul m (4 + n), mul-le m 1 m (4 + n) (omega arith) (omega arith)))
 
 piece-room : (need d : ℕ) (c : List ℕ) → 1 ≤ need → Content c → length (pieceOf need d c) ≤ pieceRoom
-unfolding pieceOf
-piece-room need d c h k =
-    omega (arith, length-values need (rowsFor need (length c)) (d + 1) (framed need c), rows-room need (length c) h, k .short)
+piece-room need d c h k = omega (arith, length-piece need d c, rows-room need (length c) h, k .short)
 
 -- What holds of each member holds of all.
 all-members : (P : ℕ → Type 0) (xs : List ℕ) → ((x : ℕ) → List·Memᴰ x xs → P x) → All P xs
@@ -68,9 +66,8 @@ own-pieces need drives c ds most k apart within many =
       pieces = parts-back f ds ∙ ap (map f) (sym back);
     }
 
-laws : (s : Setting) → Laws (site s)
-laws s =
-    let o = s .object in
+laws : (s : Setting) (o : ℕ) → Laws (siteOf (depot s) o)
+laws s o =
     let need = s .need in
     record {
       some = s .sized .some;
@@ -96,16 +93,12 @@ pub real-laws : SomeWorksOut → RealLaws
 real-laws works =
     record {
       laws = laws;
-      some = λ o drives need sized.
-          laws (record { object = o; drives = drives; need = need; workOut = workOutOf need; sized = sized; works = works need (sized .some) });
+      some = λ objects drives need o sized.
+          laws (record { objects = objects; drives = drives; need = need; workOut = workOutOf need; sized = sized; works = works need (sized .some) }) o;
       written = written-laid;
     }
 
 -- What holds of every codec and format with the laws holds of the real ones.
-pub real-promise : RealLaws → Safety → Onward → GoesOn → RealPromise
-real-promise real safety onward goes-on =
-    record {
-      safe = λ s. safety (site s) (real .laws s);
-      onward = λ s. onward (site s) (real .laws s);
-      goesOn = λ s. goes-on (site s) (real .laws s);
-    }
+pub real-promise : RealLaws → StoreSafety → Onward → RealPromise
+real-promise real safety onward =
+    record { objects = λ s. safety (depot s) (λ o l. real .laws s o); sequel = λ s o. onward (siteOf (depot s) o) (real .laws s o) }

@@ -1,14 +1,13 @@
 -- Trying every content finds the one that has the pieces.
-use mathlib.Core.Bool.{Bool, true, false, cond, not}
+use mathlib.Core.Bool.{Bool, true}
 use mathlib.Core.Path.{_≡_, refl, sym, ap, ap₂, _∙_}
-use mathlib.Core.Logic.{_⊎_, inl, inr}
-use mathlib.Core.List.{List, [], _∷_, _++_, map, List·Memᴰ, List·Memᴰ·head, List·Memᴰ·tail, List·Memᴰ·not-nil, List·Memᴰ·cases-cons, Memᴰ·append-left, Memᴰ·append-right, Memᴰ·cast}
+use mathlib.Core.Logic.{inl, inr}
+use mathlib.Core.List.{List, [], _∷_, map, List·Memᴰ, List·Memᴰ·head, List·Memᴰ·tail, List·Memᴰ·not-nil, List·Memᴰ·cases-cons, Memᴰ·append-left, Memᴰ·append-right}
 use Prim.Native.Nat.{ℕ, zero, suc, _≤_, _<_}
 use native.Mathlib.Omega.{arith}
-use lib.Dec.{eqb, leb, ltb}
+use lib.Dec.{leb, ltb}
 use lib.ListN.{length}
 use Rattle.std.specs.Orderings.{Decides}
-use Rattle.std.specs.declared.option.Option.{Option}
 use Rattle.std.specs.declared.option.Option.the-variants.{Some, None}
 use Rattle.std.specs.shelf.Lawful.{all-pass}
 use Rattle.std.specs.shelf.Lists.{All}
@@ -19,9 +18,8 @@ use Rattle.std.proofs.shelf.Ways.{decides-by-and}
 use Rattle.elimination.specs.Interpolation.{repeated}
 use Rattle.elimination.specs.Polynomial.{Bytes}
 use Rattle.elimination.proofs.Points.{distinct-from, distinct-repeated}
-use Rattle.pieces.specs.Outcomes.{RowsDetermined}
 use Rattle.pieces.specs.Rows.{MAX, LAST, pieceOf}
-use Rattle.keeper.specs.Real.{onDrives, parts, Fits, WorksOut}
+use Rattle.keeper.specs.Real.{onDrives, parts, Fits}
 use Rattle.codec.specs.WorkOut.{below, contents, first, fits, workOutOf, SomeWorksOut}
 use Rattle.codec.proofs.Unique.{unique}
 
@@ -117,12 +115,12 @@ fits-decides need ps c = (
       (pieces-decide need c ps .1 (pieces-from need c ps (h .pieces))))))),
 )
 
-pub some-works-out : RowsDetermined → SomeWorksOut
+pub some-works-out : SomeWorksOut
 unfolding workOutOf
-some-works-out determined need low =
+some-works-out need low =
     record {
       works = λ ps c h.
           let found = first-passes (fits need ps) (contents MAX) c (in-contents MAX c (h .bytes) (h .short)) (fits-decides need ps c .1 h) in
-          found .1 ∙ ap Some (unique determined need ps (found .0) c low (fits-decides need ps (found .0) .0 (found .2)) h);
+          found .1 ∙ ap Some (unique need ps (found .0) c low (fits-decides need ps (found .0) .0 (found .2)) h);
       fails = λ ps never. first-none (fits need ps) (contents MAX) (λ c t. never c (fits-decides need ps c .0 t));
     }
