@@ -1,7 +1,7 @@
 // Reading an object off its rows.
-ghost use lib.ListN.{length, getD, take, drop};
+ghost use lib.ListN.{getD};
 ghost use mathlib.Core.Path.{_≡_};
-ghost use Prim.Native.Nat.{_+_, _<_, _≤_};
+ghost use Prim.Native.Nat.{_<_, _≤_};
 ghost use Rattle.pieces.specs.Given.{IsZero, lengthIn};
 ghost use Rattle.pieces.specs.Outcomes.{Read};
 ghost use Rattle.pieces.specs.Refusals.{NotRead};
