@@ -10,15 +10,17 @@ use lib.ListN.{length, take}
 use Rattle.std.specs.declared.option.Option.{Option}
 use Rattle.std.specs.declared.option.Option.the-variants.{Some, None}
 use Rattle.std.proofs.shelf.Tests.{false≢true, true≢false, eqb-true, eqb-false, ne-eqb, not-true, not-from-false, and-from}
-use Rattle.keeper.specs.Object.{Knowledge, unsure, counts, writing, Reading, State, Codec, Setup, has as told, refused, none}
-use Rattle.keeper.specs.Readings.{piecesOf, contentOf}
+use Rattle.keeper.specs.Object.{Knowledge, unsure, counts, writing, Reading, State, Codec, Setup, Outcome, has as told, isVersion as numbered, refused, none, replaceFile}
+use Rattle.keeper.specs.Readings.{piecesOf, contentOf, allHave, howManyIn}
 use Rattle.keeper.specs.Steps
 use Rattle.keeper.specs.Steps.{highest, Found}
+use Rattle.keeper.specs.declared.refusal.Refusal.{Refusal}
+use Rattle.keeper.specs.declared.refusal.Refusal.the-variants.{TooLong, NoMoreVersions, NotEverywhere, TooFewIn}
 use Rattle.recovery.specs.Disk.{Site, Disk, slotAt, readingsOf, has, howMany}
 use Rattle.recovery.specs.Laws.{Laws, Content}
-use Rattle.recovery.specs.World.{Past, World, LastFinished, setup, outcomeOf, weak}
+use Rattle.recovery.specs.World.{Past, World, LastFinished, setup, outcomeOf, using′, noted, weak}
 use Rattle.recovery.specs.World
-use Rattle.recovery.specs.Events.{Event, May, Run}
+use Rattle.recovery.specs.Events.{Event, stepped, May, Run}
 use Rattle.recovery.specs.Promise.{Recovers, OneVersion, BelowNext, Safe, Safety, Onward, IsHighest, TakesHighest}
 use Rattle.recovery.proofs.Lists.{howMany-mono, howMany-not, mem-take}
 use Rattle.recovery.proofs.Readings.{mem-pieces, holding-has, Holding}
@@ -26,6 +28,7 @@ use Rattle.recovery.proofs.Invariant.{Right, LastIsBar, Used, Knowing, Inv}
 use Rattle.recovery.proofs.Acts.{Strong, strong}
 use Rattle.recovery.proofs.Work.{any-work, works-out, worked, pieces-enough, reading-right, some-same, none-some}
 use Rattle.recovery.proofs.Highest.{Good, AllGood, AtLeast, highest-good, highest-covers}
+use Rattle.recovery.proofs.Well.{unless-elim, using-new}
 use Rattle.recovery.proofs.Runs.{happens, run-inv}
 
 nothing-in : {X : Type 0} (xs : List X) → ((x : X) → List·Memᴰ x xs → ⊥) → xs ≡ []
@@ -63,7 +66,7 @@ module _ (S : Site) (L : Laws S) (w : World) (I : Inv S w) where
   answered : (v : ℕ) (c : List ℕ) → outcomeOf S w World.read .reply ≡ told v c → (v ≡ w .past .last) × LastFinished (w .past) c
   answered v c h = go (w .state .known) refl h
     where
-      refusal : {e : Rattle.keeper.specs.declared.refusal.Refusal.Refusal} → refused e ≡ told v c → ⊥
+      refusal : {e : Refusal} → refused e ≡ told v c → ⊥
       refusal t = let z : _≡_ {A = ℕ} 0 1 = cc in omega arith
 
       nothing : none ≡ told v c → ⊥
@@ -100,6 +103,40 @@ module _ (S : Site) (L : Laws S) (w : World) (I : Inv S w) where
             (subst (λ o. Steps.readAs (w .state) v o .reply ≡ told v c) (sym k) refl)),
       )
 
+  -- what callers were told is what the history says
+  refusal-number : {e : Refusal} {v : ℕ} → refused e ≡ numbered v → ⊥
+  refusal-number t = let z : _≡_ {A = ℕ} 0 1 = cc in omega arith
+
+  begins : (v : ℕ) (c : List ℕ) → outcomeOf S w (World.begin c) .reply ≡ numbered v → (v ≡ w .state .next) × (stepped S (World.begin c) w .past .content v ≡ Some c)
+  begins v c = unless-elim (Q (w .state .known)) (w .state) (ltb Steps.longest (length c)) TooLong (Steps.beginning (w .state) c (w .state .known)) (λ t. absurd (refusal-number t)) (λ _. go (w .state .known))
+    where
+      Q : Knowledge → Outcome → Type 0
+      Q k x = x .reply ≡ numbered v → (v ≡ w .state .next) × (noted k (x .state .known) (w .past) .content v ≡ Some c)
+
+      go : (k : Knowledge) → Q k (Steps.beginning (w .state) c k)
+      go unsure = λ t. absurd (refusal-number t)
+      go (writing o n x) = λ t. absurd (refusal-number t)
+      go (counts x) =
+          unless-elim (Q (counts x)) (w .state) (leb Steps.lastNumber (w .state .next)) NoMoreVersions (record { reply = numbered (w .state .next); acts = Steps.reserve (w .state); state = Steps.writingOn (w .state) x c })
+          (λ t. absurd (refusal-number t)) (λ _ t. let e : w .state .next ≡ v = cc in (sym e, subst (λ y. using′ (w .state .next) c (w .past .content) y ≡ Some c) e (using-new (w .state .next) c (w .past .content))))
+
+  finishes : (v : ℕ) → outcomeOf S w World.finish .reply ≡ numbered v → stepped S World.finish w .past .last ≡ v
+  finishes v = go (w .state .known)
+    where
+      Q : Knowledge → Outcome → Type 0
+      Q k x = x .reply ≡ numbered v → noted k (x .state .known) (w .past) .last ≡ v
+
+      go : (k : Knowledge) → Q k (Steps.finishing (setup S (w .disk)) (w .state) (readingsOf S (w .disk)) k)
+      go unsure = λ t. absurd (refusal-number t)
+      go (counts x) = λ t. absurd (refusal-number t)
+      go (writing o n x) =
+          unless-elim (Q (writing o n x)) (w .state) (not (allHave (S .drives) (λ d. not (w .disk .out d)) n (readingsOf S (w .disk)))) NotEverywhere
+          (Steps.unless (w .state) (ltb (howManyIn (S .drives) (λ d. not (w .disk .out d))) (S .need)) TooFewIn done′) (λ t. absurd (refusal-number t))
+          (λ _. unless-elim (Q (writing o n x)) (w .state) (ltb (howManyIn (S .drives) (λ d. not (w .disk .out d))) (S .need)) TooFewIn done′ (λ t. absurd (refusal-number t)) (λ _ t. cc))
+        where
+          done′ : Outcome
+          done′ = record { reply = numbered n; acts = replaceFile (w .state .number) n ∷ []; state = Steps.counting (w .state) n }
+
   pub safe : Safe S w
   safe =
       record {
@@ -108,6 +145,8 @@ module _ (S : Site) (L : Laws S) (w : World) (I : Inv S w) where
         counted = counted;
         answered = answered;
         answers = answers;
+        begins = begins;
+        finishes = finishes;
         oneVersion = λ v r m. one-version v r (mem-take (S .need) (piecesOf v (readingsOf S (w .disk))) m);
         unused = λ v c h. let u = I .consistent .used v c h in record { next = u .below; file = omega (arith, u .below, I .consistent .numbers, I .filed .number) };
         begun = I .sound .reads;

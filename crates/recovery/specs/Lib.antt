@@ -6,3 +6,4 @@ pub mod Promise
 pub mod Progress
 pub mod Store
 pub mod Example
+pub mod Real

@@ -9,13 +9,13 @@ use Prim.Native.Nat.{ℕ, _≤_, _<_}
 use lib.ListN.{length, take}
 use Rattle.std.specs.declared.option.Option.{Option}
 use Rattle.std.specs.declared.option.Option.the-variants.{Some, None}
-use Rattle.keeper.specs.Object.{counts, Reading, Codec, Setup, has as told}
+use Rattle.keeper.specs.Object.{counts, Reading, Codec, Setup, has as told, isVersion as numbered}
 use Rattle.keeper.specs.Readings.{piecesOf, given, contentOf}
 use Rattle.keeper.specs.Steps.{highest}
 use Rattle.recovery.specs.Disk.{Site, slotAt, readingsOf, has, howMany, OnceBegun}
 use Rattle.recovery.specs.Laws.{Laws, Distinct}
-use Rattle.recovery.specs.World.{Past, World, LastFinished, Backed, read, outcomeOf, weak}
-use Rattle.recovery.specs.Events.{Event, step, cutShort, stop, others, failing, goesOut, returns, after, May, Run}
+use Rattle.recovery.specs.World.{Past, World, LastFinished, Backed, begin, finish, read, outcomeOf, weak}
+use Rattle.recovery.specs.Events.{Event, step, cutShort, stop, others, failing, goesOut, returns, stepped, after, May, Run}
 
 -- Any readings of the version last finished, on different drives and as many as are needed, work out to exactly the content that it was begun with, or from
 -- which it was settled.
@@ -46,6 +46,10 @@ pub record Safe (S : Site) (w : World) : Type 0 where
   pub counted : (v : ℕ) → w .state .known ≡ counts v → v ≡ w .past .last
   pub answered : (v : ℕ) (c : List ℕ) → outcomeOf S w read .reply ≡ told v c → (v ≡ w .past .last) × LastFinished (w .past) c
   pub answers : (v : ℕ) → w .state .known ≡ counts v → 1 ≤ v → (c : List ℕ) × (outcomeOf S w read .reply ≡ told v c)
+  -- the history is what callers were told: a begin that answers a version makes that version's content the bytes given, and a finish that answers one
+  -- makes it the one last finished
+  pub begins : (v : ℕ) (c : List ℕ) → outcomeOf S w (begin c) .reply ≡ numbered v → (v ≡ w .state .next) × (stepped S (begin c) w .past .content v ≡ Some c)
+  pub finishes : (v : ℕ) → outcomeOf S w finish .reply ≡ numbered v → stepped S finish w .past .last ≡ v
   -- all pieces that go into one working out are of one version
   pub oneVersion : (v : ℕ) (r : Reading) → List·Memᴰ r (take (S .need) (piecesOf v (readingsOf S (w .disk)))) → OneVersion S w v r
   -- the next version's number, and the file's, are above every number used

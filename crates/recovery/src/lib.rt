@@ -3,6 +3,7 @@ ghost use Rattle.recovery.specs.Promise.{Safety, Onward, TakesHighest};
 ghost use Rattle.recovery.specs.Progress.{GoesOn};
 ghost use Rattle.recovery.specs.Store.{StoreSafety};
 ghost use Rattle.recovery.specs.Example.{Example};
+ghost use Rattle.recovery.specs.Real.{Real};
 
 // After every run the version last finished can be worked out, what a read answers is its content, and nothing is worked out of pieces of two versions.
 pub fn safety_stands() -> u8
@@ -42,6 +43,13 @@ pub fn store_stands() -> u8
 // What the promises ask can be met: a run with every kind of event, over a codec that keeps its laws, and the read at its end.
 pub fn example_stands() -> u8
     ensures { λ _. ⌜ Example ⌝ }
+{
+    0
+}
+
+// The codec and the slots that the code works by keep the laws, so all of it holds of the code's own steps.
+pub fn real_stands() -> u8
+    ensures { λ _. ⌜ Real ⌝ }
 {
     0
 }
