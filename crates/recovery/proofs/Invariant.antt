@@ -6,11 +6,12 @@ use mathlib.Core.List.{List, [], _∷_, List·Memᴰ}
 use Prim.Native.Nat.{ℕ, _+_, _≤_, _<_}
 use Rattle.std.specs.declared.option.Option.{Option}
 use Rattle.std.specs.declared.option.Option.the-variants.{Some, None}
-use Rattle.keeper.specs.Object.{Knowledge, unsure, counts, writing, State}
-use Rattle.keeper.specs.Steps.{lastNumber}
-use Rattle.recovery.specs.Disk.{Slot, empty, holds, Site, Disk, slotAt, OnceBegun}
+use Rattle.keeper.specs.Object.{Knowledge, unsure, counts, writing, State, Reading}
+use Rattle.keeper.specs.Readings.{contentOf}
+use Rattle.keeper.specs.Steps.{lastNumber, Found, highest}
+use Rattle.recovery.specs.Disk.{Slot, empty, holds, Site, Disk, slotAt, readingsOf, OnceBegun}
 use Rattle.recovery.specs.Laws.{Content}
-use Rattle.recovery.specs.World.{Past, World, LastFinished, Backed, weak, Bearable}
+use Rattle.recovery.specs.World.{Past, World, LastFinished, Backed, setup, weak, Bearable}
 
 -- A piece on a drive is right: its version is used, and it is the piece of that version's content.
 pub record Right (S : Site) (content : ℕ → Option (List ℕ)) (d v : ℕ) (p : List ℕ) : Type 0 where
@@ -62,6 +63,19 @@ pub record Inv (S : Site) (w : World) : Type 0 where
   pub consistent : Consistent (w .past) (w .state)
   pub filed : Filed (w .state .number) (w .state .bar) (w .disk)
   pub bearable : Bearable S w
+
+-- What is read in a world; which drives are in; what works out there; and what settling finds.
+abbrev pub readings : Site → World → List Reading
+readings S w = readingsOf S (w .disk)
+
+abbrev pub isIn : World → ℕ → Bool
+isIn w d = not (w .disk .out d)
+
+abbrev pub workedOut : Site → World → ℕ → Option (List ℕ)
+workedOut S w v = contentOf (S .codec) (setup S (w .disk)) v (readings S w)
+
+abbrev pub best : Site → World → Found
+best S w = highest (S .codec) (setup S (w .disk)) (w .state .bar) (readings S w) None (readings S w)
 
 -- What a place reads as is right.
 pub right-slot : {S : Site} {content : ℕ → Option (List ℕ)} {D : Disk} → Sound S content D → (d k v : ℕ) (p : List ℕ) → slotAt S D d k ≡ holds v p → Right S content d v p

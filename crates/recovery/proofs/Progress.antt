@@ -13,7 +13,7 @@ use Rattle.keeper.specs.Object.{Knowledge, unsure, counts, writing, Reading, Ac
 use Rattle.keeper.specs.Readings.{holder, taken, placeFor, ownPlace, freePlace, contentOf, clears, howManyIn, allHave, countsAt}
 use Rattle.keeper.specs.Steps
 use Rattle.keeper.specs.Steps.{Found, places, lastNumber, raised, reserve, highest, stride}
-use Rattle.keeper.specs.declared.refusal.Refusal.the-variants.{DriveOut, NoSuch}
+use Rattle.keeper.specs.declared.refusal.Refusal.the-variants.{NoSuch, DriveOut, NotEverywhere, TooFewIn, NoMoreVersions}
 use Rattle.recovery.specs.Disk.{Slot, empty, holds, Site, Disk, slotAt, readingsOf, has, howMany, filing, placing, begunBy, perform, performAll}
 use Rattle.recovery.specs.Laws.{Laws, Content}
 use Rattle.recovery.specs.World.{Past, World, Call, write, finish, tidy, mend, giveUp, settle, setup, outcomeOf, weak}
@@ -21,7 +21,7 @@ use Rattle.recovery.specs.Events.{Given, carriedOut, stepped, Run}
 use Rattle.recovery.specs.Progress.{BySteps, here, then, Counting, CanGoOn, GoesOn}
 use Rattle.recovery.proofs.Lists.{howMany-mono, howMany-not, any-none}
 use Rattle.recovery.proofs.Readings.{Read, mem-read, read-mem, asRead, Holding, holding-has, has-holding, holding-holder, holder-holding}
-use Rattle.recovery.proofs.Invariant.{Inv, Writing, Knowing, LastIsBar}
+use Rattle.recovery.proofs.Invariant.{Inv, Writing, Knowing, LastIsBar, readings, isIn, workedOut, best}
 use Rattle.recovery.proofs.Acts.{slot-other, slot-same, at-elim}
 use Rattle.recovery.proofs.Cleared.{Spared, spared, clears-keep, empty-holds}
 use Rattle.recovery.proofs.Places.{room, place-low}
@@ -53,12 +53,9 @@ module _ (S : Site) (L : Laws S) where
   wrote : (w : World) → Inv S w → (o v : ℕ) (c : List ℕ) (a b i : ℕ) → i < S .drives → Half S (w .disk) (w .state) o v c a b i → Half S (stepped S (write i) w .disk) (stepped S (write i) w .state) o v c a b (suc i)
   unfolding performAll
   wrote w I o v c a b i l h =
-      passes Q (leb (S .drives) i) (refuse (w .state) NoSuch) (Steps.writingTo (S .codec) (setup S (w .disk)) (w .state) i rs (w .state .known)) (lt-leb (S .drives) i l)
-      (subst (λ k. Q (Steps.writingTo (S .codec) (setup S (w .disk)) (w .state) i rs k)) (sym (h .known)) (tested (w .disk .out i) refl))
+      passes Q (leb (S .drives) i) (refuse (w .state) NoSuch) (Steps.writingTo (S .codec) (setup S (w .disk)) (w .state) i (readings S w) (w .state .known)) (lt-leb (S .drives) i l)
+      (subst (λ k. Q (Steps.writingTo (S .codec) (setup S (w .disk)) (w .state) i (readings S w) k)) (sym (h .known)) (tested (w .disk .out i) refl))
     where
-      rs : List Reading
-      rs = readingsOf S (w .disk)
-
       Q : Outcome → Type 0
       Q x = Half S (performAll S (x .acts) (w .disk)) (x .state) o v c a b (suc i)
 
@@ -68,8 +65,8 @@ module _ (S : Site) (L : Laws S) where
       z : Writing (w .past) (w .state) v c
       z = subst (Knowing (w .past) (w .state)) (h .known) (I .consistent .known)
 
-      place : (k : ℕ) × (placeFor places i v (readingsOf S (w .disk)) ≡ Some k)
-      place = room (readingsOf S (w .disk)) i v a b (λ r m e. let q = mem-read S (w .disk) m in h .few (r .drive) (r .place) (r .version) (r .piece) (q .inside) (q .low) (q .isIn) (q .slot))
+      place : (k : ℕ) × (placeFor places i v (readings S w) ≡ Some k)
+      place = room (readings S w) i v a b (λ r m e. let q = mem-read S (w .disk) m in h .few (r .drive) (r .place) (r .version) (r .piece) (q .inside) (q .low) (q .isIn) (q .slot))
 
       reads : (k : ℕ) → slotAt S (perform S (writeSlot i k bytes) (w .disk)) i k ≡ holds v (S .codec .pieceOf i c)
       reads k =
@@ -103,13 +100,13 @@ module _ (S : Site) (L : Laws S) where
                 | inr e ↦ (let q = h .have d (omega arith) out in record { place = q .place; low = q .low; piece = q .piece; slot = elsewhere k d (q .place) (λ f _. e f) ∙ q .slot })
               ]
 
-      put : (p : Option ℕ) → placeFor places i v (readingsOf S (w .disk)) ≡ p → Q (Steps.writeAt (S .codec) (w .state) i v c done p)
+      put : (p : Option ℕ) → placeFor places i v (readings S w) ≡ p → Q (Steps.writeAt (S .codec) (w .state) i v c done p)
       put None e = let q : _≡_ {A = ℕ} 0 1 = (let f = sym e ∙ place .1 in cc) in absurd (omega arith)
       put (Some k) e = written k (place-low S (w .disk) i v k e)
 
-      tested : (t : Bool) → w .disk .out i ≡ t → Q (cond (not (not t)) (refuse (w .state) DriveOut) (Steps.writeAt (S .codec) (w .state) i v c done (placeFor places i v (readingsOf S (w .disk)))))
+      tested : (t : Bool) → w .disk .out i ≡ t → Q (cond (not (not t)) (refuse (w .state) DriveOut) (Steps.writeAt (S .codec) (w .state) i v c done (placeFor places i v (readings S w))))
       tested true e = record { known = h .known; few = h .few; have = λ d m out. elim (cases-eq d i) [ inl f ↦ absurd (true≢false (sym e ∙ subst (λ y. w .disk .out y ≡ false) f out)) | inr f ↦ h .have d (omega arith) out ] }
-      tested false e = put (placeFor places i v (readingsOf S (w .disk))) refl
+      tested false e = put (placeFor places i v (readings S w)) refl
 
   record Written (w₀ : World) (o v : ℕ) (c : List ℕ) (a b : ℕ) : Type 0 where
     later : World
@@ -138,16 +135,10 @@ module _ (S : Site) (L : Laws S) where
 
   finishes : (w : World) → Inv S w → (o v : ℕ) (c : List ℕ) (a b : ℕ) → Half S (w .disk) (w .state) o v c a b (S .drives) → stepped S finish w .state .known ≡ counts v
   finishes w I o v c a b h =
-      subst (λ k. Q (Steps.finishing (setup S (w .disk)) (w .state) rs k)) (sym (h .known))
-      (passes Q (not (allHave (S .drives) isIn v rs)) (refuse (w .state) Rattle.keeper.specs.declared.refusal.Refusal.the-variants.NotEverywhere) rest (not-from-true (allHave (S .drives) isIn v rs) all)
-      (passes Q (ltb (howManyIn (S .drives) isIn) (S .need)) (refuse (w .state) Rattle.keeper.specs.declared.refusal.Refusal.the-variants.TooFewIn) now (le-ltb (howManyIn (S .drives) isIn) (S .need) enough) refl))
+      subst (λ k. Q (Steps.finishing (setup S (w .disk)) (w .state) (readings S w) k)) (sym (h .known))
+      (passes Q (not (allHave (S .drives) (isIn w) v (readings S w))) (refuse (w .state) NotEverywhere) rest (not-from-true (allHave (S .drives) (isIn w) v (readings S w)) all)
+      (passes Q (ltb (howManyIn (S .drives) (isIn w)) (S .need)) (refuse (w .state) TooFewIn) now (le-ltb (howManyIn (S .drives) (isIn w)) (S .need) enough) refl))
     where
-      rs : List Reading
-      rs = readingsOf S (w .disk)
-
-      isIn : ℕ → Bool
-      isIn d = not (w .disk .out d)
-
       Q : Outcome → Type 0
       Q x = x .state .known ≡ counts v
 
@@ -155,19 +146,19 @@ module _ (S : Site) (L : Laws S) where
       now = record { reply = isVersion v; acts = replaceFile (w .state .number) v ∷ []; state = Steps.counting (w .state) v }
 
       rest : Outcome
-      rest = cond (ltb (howManyIn (S .drives) (λ d. not (w .disk .out d))) (S .need)) (refuse (w .state) Rattle.keeper.specs.declared.refusal.Refusal.the-variants.TooFewIn) now
+      rest = cond (ltb (howManyIn (S .drives) (isIn w)) (S .need)) (refuse (w .state) TooFewIn) now
 
-      all : allHave (S .drives) (λ d. not (w .disk .out d)) v (readingsOf S (w .disk)) ≡ true
-      all = have-all (S .drives) (λ d. not (w .disk .out d)) v (readingsOf S (w .disk)) (λ d l e. let i = in-not-out (w .disk .out d) e in holding-holder S (w .disk) d v l i (h .have d l i))
+      all : allHave (S .drives) (isIn w) v (readings S w) ≡ true
+      all = have-all (S .drives) (isIn w) v (readings S w) (λ d l e. let i = in-not-out (w .disk .out d) e in holding-holder S (w .disk) d v l i (h .have d l i))
 
       out-weak : (d : ℕ) → d < S .drives → w .disk .out d ≡ true → weak S (w .disk) (w .past .last) d ≡ true
       out-weak d l e = rw e refl
 
-      enough : S .need ≤ howManyIn (S .drives) (λ d. not (w .disk .out d))
+      enough : S .need ≤ howManyIn (S .drives) (isIn w)
       enough =
           let x = howMany-mono (S .drives) (w .disk .out) (weak S (w .disk) (w .past .last)) out-weak in
           let y = howMany-not (S .drives) (w .disk .out) in
-          let z = in-howMany (S .drives) (λ d. not (w .disk .out d)) in
+          let z = in-howMany (S .drives) (isIn w) in
           let t = I .bearable in
           omega arith
 
@@ -183,23 +174,20 @@ module _ (S : Site) (L : Laws S) where
   settled : (w : World) → w .state .known ≡ unsure → w .state .next < lastNumber → (stepped S settle w .state .known ≡ counts 0) ⊎ Begun (stepped S settle w .disk) (stepped S settle w .state)
   unfolding performAll
   settled w e small =
-      subst (λ k. Q (Steps.settling (S .codec) (setup S (w .disk)) (w .state) (readingsOf S (w .disk)) k)) (sym e)
-      (passes Q (leb lastNumber (w .state .next)) (refuse (w .state) Rattle.keeper.specs.declared.refusal.Refusal.the-variants.NoMoreVersions) (Steps.settlingOn (w .state) (readingsOf S (w .disk)) best) (lt-leb lastNumber (w .state .next) small) (go best))
+      subst (λ k. Q (Steps.settling (S .codec) (setup S (w .disk)) (w .state) (readings S w) k)) (sym e)
+      (passes Q (leb lastNumber (w .state .next)) (refuse (w .state) NoMoreVersions) (Steps.settlingOn (w .state) (readings S w) (best S w)) (lt-leb lastNumber (w .state .next) small) (go (best S w)))
     where
-      best : Found
-      best = highest (S .codec) (setup S (w .disk)) (w .state .bar) (readingsOf S (w .disk)) None (readingsOf S (w .disk))
-
       Q : Outcome → Type 0
       Q x = (x .state .known ≡ counts 0) ⊎ Begun (performAll S (x .acts) (w .disk)) (x .state)
 
-      few-left : (f : ℕ × List ℕ) (t : Bool) → Few S (performAll S (cond t (replaceFile (w .state .number + stride) (w .state .bar) ∷ []) [] ++ clears (λ r. not (eqb (r .version) (f .0) || eqb (r .version) (w .state .bar))) (readingsOf S (w .disk))) (w .disk)) (f .0) (w .state .bar) (w .state .next)
+      few-left : (f : ℕ × List ℕ) (t : Bool) → Few S (performAll S (cond t (replaceFile (w .state .number + stride) (w .state .bar) ∷ []) [] ++ clears (λ r. not (eqb (r .version) (f .0) || eqb (r .version) (w .state .bar))) (readings S w)) (w .disk)) (f .0) (w .state .bar) (w .state .next)
       few-left f t d k x p l low out q = named (which t out q)
         where
           rule : Reading → Bool
           rule r = not (eqb (r .version) (f .0) || eqb (r .version) (w .state .bar))
 
-          which : (t : Bool) → performAll S (cond t (replaceFile (w .state .number + stride) (w .state .bar) ∷ []) [] ++ clears rule (readingsOf S (w .disk))) (w .disk) .out d ≡ false →
-              slotAt S (performAll S (cond t (replaceFile (w .state .number + stride) (w .state .bar) ∷ []) [] ++ clears rule (readingsOf S (w .disk))) (w .disk)) d k ≡ holds x p → Spared S (w .disk) rule d k x p
+          which : (t : Bool) → performAll S (cond t (replaceFile (w .state .number + stride) (w .state .bar) ∷ []) [] ++ clears rule (readings S w)) (w .disk) .out d ≡ false →
+              slotAt S (performAll S (cond t (replaceFile (w .state .number + stride) (w .state .bar) ∷ []) [] ++ clears rule (readings S w)) (w .disk)) d k ≡ holds x p → Spared S (w .disk) rule d k x p
           which true i y = spared S L (w .disk) rule (w .state .number + stride) (w .state .bar) d k x p l low (subst (λ (g : ℕ → Bool). g d ≡ false) (clears-keep S (w .disk) rule (w .state .number + stride) (w .state .bar)) i) y
           which false i y = spared S L (w .disk) rule (w .disk .number) (w .disk .bar) d k x p l low (subst (λ (g : ℕ → Bool). g d ≡ false) (clears-keep S (w .disk) rule (w .disk .number) (w .disk .bar)) i) y
 
@@ -210,7 +198,7 @@ module _ (S : Site) (L : Laws S) where
                 | inr y ↦ inr (inl (eqb-true x (w .state .bar) y))
               ]
 
-      go : (f : Found) → Q (Steps.settlingOn (w .state) (readingsOf S (w .disk)) f)
+      go : (f : Found) → Q (Steps.settlingOn (w .state) (readings S w) f)
       go None = inl refl
       go (Some f) =
           inr (record {
@@ -252,18 +240,15 @@ module _ (S : Site) (L : Laws S) where
 
   tidied : (w : World) (v d : ℕ) → w .state .known ≡ counts v → d < S .drives → w .disk .out d ≡ false → Tidied (stepped S (tidy d) w .disk) (stepped S (tidy d) w .state) d v
   tidied w v d e l i =
-      passes Q (leb (S .drives) d) (refuse (w .state) NoSuch) (Steps.tidying (setup S (w .disk)) (w .state) d rs (w .state .known)) (lt-leb (S .drives) d l)
-      (subst (λ k. Q (Steps.tidying (setup S (w .disk)) (w .state) d rs k)) (sym e)
-      (passes Q (not (not (w .disk .out d))) (refuse (w .state) DriveOut) (Steps.takeAway (w .state) rule rs) (in-test (w .disk .out d) i)
+      passes Q (leb (S .drives) d) (refuse (w .state) NoSuch) (Steps.tidying (setup S (w .disk)) (w .state) d (readings S w) (w .state .known)) (lt-leb (S .drives) d l)
+      (subst (λ k. Q (Steps.tidying (setup S (w .disk)) (w .state) d (readings S w) k)) (sym e)
+      (passes Q (not (not (w .disk .out d))) (refuse (w .state) DriveOut) (Steps.takeAway (w .state) rule (readings S w)) (in-test (w .disk .out d) i)
       (record {
         known = e;
         isIn = subst (λ (g : ℕ → Bool). g d ≡ false) (sym (clears-keep S (w .disk) rule (w .disk .number) (w .disk .bar))) i;
         only = λ k y p low q. named k y p (spared S L (w .disk) rule (w .disk .number) (w .disk .bar) d k y p l low i q);
       })))
     where
-      rs : List Reading
-      rs = readingsOf S (w .disk)
-
       rule : Reading → Bool
       rule r = eqb (r .drive) d && not (eqb (r .version) v)
 
@@ -280,22 +265,22 @@ module _ (S : Site) (L : Laws S) where
   mended-has : (w : World) → Inv S w → (v d : ℕ) → 1 ≤ v → d < S .drives → Tidied (w .disk) (w .state) d v → has S (stepped S (mend d) w .disk) d v ≡ true
   unfolding performAll
   mended-has w I v d one l t =
-      passes Q (leb (S .drives) d) (refuse (w .state) NoSuch) (Steps.mending (S .codec) (setup S (w .disk)) (w .state) d (readingsOf S (w .disk)) (w .state .known)) (lt-leb (S .drives) d l)
-      (subst (λ k. Q (Steps.mending (S .codec) (setup S (w .disk)) (w .state) d (readingsOf S (w .disk)) k)) (sym (t .known))
+      passes Q (leb (S .drives) d) (refuse (w .state) NoSuch) (Steps.mending (S .codec) (setup S (w .disk)) (w .state) d (readings S w) (w .state .known)) (lt-leb (S .drives) d l)
+      (subst (λ k. Q (Steps.mending (S .codec) (setup S (w .disk)) (w .state) d (readings S w) k)) (sym (t .known))
       (passes Q (not (not (w .disk .out d))) (refuse (w .state) DriveOut) onward (in-test (w .disk .out d) (t .isIn))
-      (passes Q (eqb v 0) (Steps.nothingToMend (w .state) (placeFor places d v (readingsOf S (w .disk)))) held (ne-eqb v 0 (λ z. omega arith)) (go (holder d v (readingsOf S (w .disk))) refl))))
+      (passes Q (eqb v 0) (Steps.nothingToMend (w .state) (placeFor places d v (readings S w))) held (ne-eqb v 0 (λ z. omega arith)) (go (holder d v (readings S w)) refl))))
     where
       Q : Outcome → Type 0
       Q x = has S (performAll S (x .acts) (w .disk)) d v ≡ true
 
       again : Outcome
-      again = Steps.remake (S .codec) (w .state) d v (placeFor places d v (readingsOf S (w .disk))) (contentOf (S .codec) (setup S (w .disk)) v (readingsOf S (w .disk)))
+      again = Steps.remake (S .codec) (w .state) d v (placeFor places d v (readings S w)) (workedOut S w v)
 
       held : Outcome
-      held = cond (holder d v (readingsOf S (w .disk))) (Steps.tell (w .state) (mended 0)) again
+      held = cond (holder d v (readings S w)) (Steps.tell (w .state) (mended 0)) again
 
       onward : Outcome
-      onward = cond (eqb v 0) (Steps.nothingToMend (w .state) (placeFor places d v (readingsOf S (w .disk)))) held
+      onward = cond (eqb v 0) (Steps.nothingToMend (w .state) (placeFor places d v (readings S w))) held
 
       same : v ≡ w .past .last
       same = counted S L w I v (t .known)
@@ -309,11 +294,11 @@ module _ (S : Site) (L : Laws S) where
       used : w .past .content v ≡ Some whole
       used = subst (λ x. w .past .content x ≡ Some whole) (sym same) (last-used S L w I (omega (arith, same)) .used)
 
-      works : contentOf (S .codec) (setup S (w .disk)) v (readingsOf S (w .disk)) ≡ Some whole
-      works = subst (λ x. contentOf (S .codec) (setup S (w .disk)) x (readingsOf S (w .disk)) ≡ Some whole) (sym same) (last-works S L w I (omega (arith, same)))
+      works : workedOut S w v ≡ Some whole
+      works = subst (λ x. workedOut S w x ≡ Some whole) (sym same) (last-works S L w I (omega (arith, same)))
 
-      place : (k : ℕ) × (placeFor places d v (readingsOf S (w .disk)) ≡ Some k)
-      place = room (readingsOf S (w .disk)) d v v v (λ r m e. let q = mem-read S (w .disk) m in inl (t .only (r .place) (r .version) (r .piece) (q .low) (subst (λ x. slotAt S (w .disk) x (r .place) ≡ holds (r .version) (r .piece)) e (q .slot))))
+      place : (k : ℕ) × (placeFor places d v (readings S w) ≡ Some k)
+      place = room (readings S w) d v v v (λ r m e. let q = mem-read S (w .disk) m in inl (t .only (r .place) (r .version) (r .piece) (q .low) (subst (λ x. slotAt S (w .disk) x (r .place) ≡ holds (r .version) (r .piece)) e (q .slot))))
 
       written : (k : ℕ) → k < 4 → Q (Steps.remake (S .codec) (w .state) d v (Some k) (Some whole))
       written k low =
@@ -326,10 +311,10 @@ module _ (S : Site) (L : Laws S) where
             slot = slot-same S (w .disk) d k (S .format .lay (S .codec .encode d v (S .codec .pieceOf d whole)) (w .disk .bytes d k)) (begunBy S d k (S .codec .encode d v (S .codec .pieceOf d whole)) (w .disk)) ∙ L .written d v whole (w .disk .bytes d k) l (u .small) (u .content);
           })
 
-      go : (b : Bool) → holder d v (readingsOf S (w .disk)) ≡ b → Q (cond b (Steps.tell (w .state) (mended 0)) again)
+      go : (b : Bool) → holder d v (readings S w) ≡ b → Q (cond b (Steps.tell (w .state) (mended 0)) again)
       go true e = holding-has S (w .disk) d v (holder-holding S (w .disk) d v e .0)
       go false e =
-          subst (λ p. Q (Steps.remake (S .codec) (w .state) d v p (contentOf (S .codec) (setup S (w .disk)) v (readingsOf S (w .disk))))) (sym (place .1))
+          subst (λ p. Q (Steps.remake (S .codec) (w .state) d v p (workedOut S w v))) (sym (place .1))
           (subst (λ o. Q (Steps.remake (S .codec) (w .state) d v (Some (place .0)) o)) (sym works) (written (place .0) (place-low S (w .disk) d v (place .0) (place .1))))
 
   pub goes-on-from : (w : World) → Inv S w → CanGoOn S w

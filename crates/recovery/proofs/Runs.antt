@@ -9,7 +9,7 @@ use lib.Dec.{eqb, ltb, leb}
 use Rattle.std.specs.declared.option.Option.{Option}
 use Rattle.std.specs.declared.option.Option.the-variants.{Some, None}
 use Rattle.std.proofs.shelf.Tests.{false≢true, true≢false, eqb-true, eqb-false}
-use Rattle.keeper.specs.Object.{unsure, counts, writing, State, Act, replaceFile}
+use Rattle.keeper.specs.Object.{Knowledge, unsure, counts, writing, State, Act, replaceFile}
 use Rattle.recovery.specs.Disk.{Slot, empty, holds, Site, Disk, slotAt, hasFrom, howMany, without, bearing, cut, MayCut, OnceBegun}
 use Rattle.recovery.specs.Laws.{Laws}
 use Rattle.recovery.specs.World.{Past, World, Call, outcomeOf, weak, Bearable}
@@ -18,7 +18,7 @@ use Rattle.recovery.specs.Promise.{Fresh, Own, Sequel}
 use Rattle.recovery.proofs.Invariant.{Right, Sound, Used, Writing, Knowing, LastIsBar, Consistent, Filed, Inv}
 use Rattle.recovery.proofs.Acts.{Strong, strong, not-weak, Keeps, refiled, Goes, stays, cut-goes}
 use Rattle.recovery.proofs.Work.{none-some}
-use Rattle.recovery.proofs.Well.{bearable-kept, OneFile, Mild, WellDone}
+use Rattle.recovery.proofs.Well.{bearable-kept, OneFile, Mild, WellDone, Leads}
 use Rattle.recovery.proofs.Steps.{step-well}
 
 pub record Happens (S : Site) (w : World) (e : Event) : Type 0 where
@@ -60,16 +60,16 @@ coming-up P s D k f =
 
 module _ (S : Site) (L : Laws S) (w : World) (I : Inv S w) where
   -- a cut leads where gentle acts lead
-  pub cut-mild : (as′ : List Act) (n : ℕ) (left : Option (List ℕ)) → Mild S w as′ → MayCut S as′ n left (w .disk) → Goes S (w .past .content) (w .past .last) (w .state .number) (w .state .bar) (w .disk) (cut S as′ n left (w .disk))
+  pub cut-mild : (as′ : List Act) (n : ℕ) (left : Option (List ℕ)) → Mild S w as′ → MayCut S as′ n left (w .disk) → Leads S w (w .state .number) (cut S as′ n left (w .disk))
   unfolding cut MayCut
   cut-mild as′ n left (inl g) h = cut-goes S L (w .past .content) (w .past .last) (w .state .number) (w .state .bar) as′ n left (w .disk) (I .sound) (I .filed) g h
   cut-mild as′ n left (inr o) h =
-      subst (λ l. Goes S (w .past .content) (w .past .last) (w .state .number) (w .state .bar) (w .disk) (cut S l n left (w .disk))) (sym (o .is)) (go n left (subst (λ l. MayCut S l n left (w .disk)) (o .is) h))
+      subst (λ l. Leads S w (w .state .number) (cut S l n left (w .disk))) (sym (o .is)) (go n left (subst (λ l. MayCut S l n left (w .disk)) (o .is) h))
     where
-      same : Goes S (w .past .content) (w .past .last) (w .state .number) (w .state .bar) (w .disk) (w .disk)
+      same : Leads S w (w .state .number) (w .disk)
       same = stays S L (w .past .content) (w .past .last) (w .state .number) (w .state .bar) (w .disk) (I .sound) (I .filed)
 
-      go : (m : ℕ) (l : Option (List ℕ)) → MayCut S (replaceFile (o .number) (o .bar) ∷ []) m l (w .disk) → Goes S (w .past .content) (w .past .last) (w .state .number) (w .state .bar) (w .disk) (cut S (replaceFile (o .number) (o .bar) ∷ []) m l (w .disk))
+      go : (m : ℕ) (l : Option (List ℕ)) → MayCut S (replaceFile (o .number) (o .bar) ∷ []) m l (w .disk) → Leads S w (w .state .number) (cut S (replaceFile (o .number) (o .bar) ∷ []) m l (w .disk))
       go zero None k = same
       go zero (Some b) k = same
       go (suc m) l k = absurd k
@@ -80,7 +80,7 @@ module _ (S : Site) (L : Laws S) (w : World) (I : Inv S w) where
   unweakened : (D D′ : Disk) (last last′ : ℕ) → Keeps S D last D′ last′ → (d : ℕ) → d < S .drives → weak S D last d ≡ false → weak S D′ last′ d ≡ false
   unweakened D D′ last last′ k d l h = not-weak S D′ last′ d (k d l (strong S D last d h))
 
-  stopping : (D′ : Disk) → Goes S (w .past .content) (w .past .last) (w .state .number) (w .state .bar) (w .disk) D′ → Inv S (stopped D′ w) × Fresh w (stopped D′ w)
+  stopping : (D′ : Disk) → Leads S w (w .state .number) D′ → Inv S (stopped D′ w) × Fresh w (stopped D′ w)
   stopping D′ g =
       let u = coming-up (w .past) (w .state) D′ (I .consistent) (g .filed) in
       (record { sound = g .sound; consistent = u .consistent; filed = u .filed; bearable = bearable-kept S (w .disk) (w .past .last) D′ (w .past .last) (g .keeps) (I .bearable) }, still-fresh (stopped D′ w) refl (omega (arith, I .consistent .numbers, g .filed .number)) (g .filed .number))
@@ -125,7 +125,7 @@ module _ (S : Site) (L : Laws S) (w : World) (I : Inv S w) where
       t : State
       t = record { known = w .state .known; bar = w .state .bar; next = next; number = number }
 
-      known′ : (k : Rattle.keeper.specs.Object.Knowledge) → Knowing (w .past) (w .state) k → Knowing (w .past) t k
+      known′ : (k : Knowledge) → Knowing (w .past) (w .state) k → Knowing (w .past) t k
       known′ unsure h = tt
       known′ (counts v) h = h
       known′ (writing o v c) h = record { used = h .used; above = h .above; highest = h .highest }

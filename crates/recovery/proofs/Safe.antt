@@ -9,9 +9,9 @@ use lib.Dec.{eqb, ltb, leb}
 use lib.ListN.{length, take}
 use Rattle.std.specs.declared.option.Option.{Option}
 use Rattle.std.specs.declared.option.Option.the-variants.{Some, None}
-use Rattle.std.proofs.shelf.Tests.{false≢true, true≢false, eqb-true, eqb-false, ne-eqb, not-true, not-from-false, and-from}
+use Rattle.std.proofs.shelf.Tests.{false≢true, true≢false, eqb-true, eqb-false, ne-eqb, leb-true, not-true, not-from-false, and-from}
 use Rattle.keeper.specs.Object.{Knowledge, unsure, counts, writing, Reading, State, Codec, Setup, Outcome, has as told, isVersion as numbered, refused, none, replaceFile}
-use Rattle.keeper.specs.Readings.{piecesOf, contentOf, allHave, howManyIn}
+use Rattle.keeper.specs.Readings.{piecesOf, given, contentOf, allHave, howManyIn}
 use Rattle.keeper.specs.Steps
 use Rattle.keeper.specs.Steps.{highest, Found}
 use Rattle.keeper.specs.declared.refusal.Refusal.{Refusal}
@@ -24,7 +24,7 @@ use Rattle.recovery.specs.Events.{Event, stepped, May, Run}
 use Rattle.recovery.specs.Promise.{Recovers, OneVersion, BelowNext, Safe, Safety, Onward, IsHighest, TakesHighest}
 use Rattle.recovery.proofs.Lists.{howMany-mono, howMany-not, mem-take}
 use Rattle.recovery.proofs.Readings.{mem-pieces, holding-has, Holding}
-use Rattle.recovery.proofs.Invariant.{Right, LastIsBar, Used, Knowing, Inv}
+use Rattle.recovery.proofs.Invariant.{Right, LastIsBar, Used, Knowing, Inv, readings, isIn, workedOut}
 use Rattle.recovery.proofs.Acts.{Strong, strong}
 use Rattle.recovery.proofs.Work.{any-work, works-out, worked, pieces-enough, reading-right, some-same, none-some}
 use Rattle.recovery.proofs.Highest.{Good, AllGood, AtLeast, highest-good, highest-covers}
@@ -58,7 +58,7 @@ module _ (S : Site) (L : Laws S) (w : World) (I : Inv S w) where
           and-from (not (w .disk .out d)) (has S (w .disk) d (w .past .last)) (not-from-false (w .disk .out d) (t .isIn)) (elim (t .has) [ inl z ↦ absurd (omega (arith, z)) | inr z ↦ holding-has S (w .disk) d (w .past .last) z ])
 
   -- the content of the version last finished works out
-  pub last-works : (one : 1 ≤ w .past .last) → contentOf (S .codec) (setup S (w .disk)) (w .past .last) (readingsOf S (w .disk)) ≡ Some (last-used one .content)
+  pub last-works : (one : 1 ≤ w .past .last) → workedOut S w (w .past .last) ≡ Some (last-used one .content)
   last-works one =
       worked S L (w .past .content) (w .disk) (I .sound) (w .past .last) (last-used one .content) (last-used one .used) (fits (w .past .last) (last-used one .content) (last-used one .used))
       (pieces-enough S (w .disk) (w .past .last) one (I .bearable))
@@ -72,7 +72,7 @@ module _ (S : Site) (L : Laws S) (w : World) (I : Inv S w) where
       nothing : none ≡ told v c → ⊥
       nothing t = let z : _≡_ {A = ℕ} 0 1 = cc in omega arith
 
-      found : (x : ℕ) → w .state .known ≡ counts x → (o : Option (List ℕ)) → contentOf (S .codec) (setup S (w .disk)) x (readingsOf S (w .disk)) ≡ o → Steps.readAs (w .state) x o .reply ≡ told v c → (v ≡ w .past .last) × LastFinished (w .past) c
+      found : (x : ℕ) → w .state .known ≡ counts x → (o : Option (List ℕ)) → workedOut S w x ≡ o → Steps.readAs (w .state) x o .reply ≡ told v c → (v ≡ w .past .last) × LastFinished (w .past) c
       found x e None k t = absurd (refusal t)
       found x e (Some y) k t =
           let a : x ≡ v = cc in
@@ -82,11 +82,11 @@ module _ (S : Site) (L : Laws S) (w : World) (I : Inv S w) where
           let u′ : w .past .content (w .past .last) ≡ Some c = subst (λ z. w .past .content (w .past .last) ≡ Some z) b (subst (λ z. w .past .content z ≡ Some y) last′ u) in
           (sym a ∙ last′, record { finished = I .consistent .used (w .past .last) c u′ .one; content = u′ })
 
-      test : (x : ℕ) → w .state .known ≡ counts x → (b : Bool) → cond b (Steps.tell (w .state) none) (Steps.readAs (w .state) x (contentOf (S .codec) (setup S (w .disk)) x (readingsOf S (w .disk)))) .reply ≡ told v c → (v ≡ w .past .last) × LastFinished (w .past) c
+      test : (x : ℕ) → w .state .known ≡ counts x → (b : Bool) → cond b (Steps.tell (w .state) none) (Steps.readAs (w .state) x (workedOut S w x)) .reply ≡ told v c → (v ≡ w .past .last) × LastFinished (w .past) c
       test x e true t = absurd (nothing t)
-      test x e false t = found x e (contentOf (S .codec) (setup S (w .disk)) x (readingsOf S (w .disk))) refl t
+      test x e false t = found x e (workedOut S w x) refl t
 
-      go : (k : Knowledge) → w .state .known ≡ k → Steps.reading (S .codec) (setup S (w .disk)) (w .state) (readingsOf S (w .disk)) k .reply ≡ told v c → (v ≡ w .past .last) × LastFinished (w .past) c
+      go : (k : Knowledge) → w .state .known ≡ k → Steps.reading (S .codec) (setup S (w .disk)) (w .state) (readings S w) k .reply ≡ told v c → (v ≡ w .past .last) × LastFinished (w .past) c
       go unsure e t = absurd (refusal t)
       go (writing o n y) e t = absurd (refusal t)
       go (counts x) e t = test x e (eqb x 0) t
@@ -96,10 +96,10 @@ module _ (S : Site) (L : Laws S) (w : World) (I : Inv S w) where
       let same = counted v e in
       let one′ : 1 ≤ w .past .last = omega arith in
       let c = last-used one′ .content in
-      let k : contentOf (S .codec) (setup S (w .disk)) v (readingsOf S (w .disk)) ≡ Some c = subst (λ x. contentOf (S .codec) (setup S (w .disk)) x (readingsOf S (w .disk)) ≡ Some c) (sym same) (last-works one′) in (
+      let k : workedOut S w v ≡ Some c = subst (λ x. workedOut S w x ≡ Some c) (sym same) (last-works one′) in (
         c,
-        subst (λ y. Steps.reading (S .codec) (setup S (w .disk)) (w .state) (readingsOf S (w .disk)) y .reply ≡ told v c) (sym e)
-            (subst (λ b. cond b (Steps.tell (w .state) none) (Steps.readAs (w .state) v (contentOf (S .codec) (setup S (w .disk)) v (readingsOf S (w .disk)))) .reply ≡ told v c) (sym (ne-eqb v 0 (λ z. omega arith)))
+        subst (λ y. Steps.reading (S .codec) (setup S (w .disk)) (w .state) (readings S w) y .reply ≡ told v c) (sym e)
+            (subst (λ b. cond b (Steps.tell (w .state) none) (Steps.readAs (w .state) v (workedOut S w v)) .reply ≡ told v c) (sym (ne-eqb v 0 (λ z. omega arith)))
             (subst (λ o. Steps.readAs (w .state) v o .reply ≡ told v c) (sym k) refl)),
       )
 
@@ -126,13 +126,13 @@ module _ (S : Site) (L : Laws S) (w : World) (I : Inv S w) where
       Q : Knowledge → Outcome → Type 0
       Q k x = x .reply ≡ numbered v → noted k (x .state .known) (w .past) .last ≡ v
 
-      go : (k : Knowledge) → Q k (Steps.finishing (setup S (w .disk)) (w .state) (readingsOf S (w .disk)) k)
+      go : (k : Knowledge) → Q k (Steps.finishing (setup S (w .disk)) (w .state) (readings S w) k)
       go unsure = λ t. absurd (refusal-number t)
       go (counts x) = λ t. absurd (refusal-number t)
       go (writing o n x) =
-          unless-elim (Q (writing o n x)) (w .state) (not (allHave (S .drives) (λ d. not (w .disk .out d)) n (readingsOf S (w .disk)))) NotEverywhere
-          (Steps.unless (w .state) (ltb (howManyIn (S .drives) (λ d. not (w .disk .out d))) (S .need)) TooFewIn done′) (λ t. absurd (refusal-number t))
-          (λ _. unless-elim (Q (writing o n x)) (w .state) (ltb (howManyIn (S .drives) (λ d. not (w .disk .out d))) (S .need)) TooFewIn done′ (λ t. absurd (refusal-number t)) (λ _ t. cc))
+          unless-elim (Q (writing o n x)) (w .state) (not (allHave (S .drives) (isIn w) n (readings S w))) NotEverywhere
+          (Steps.unless (w .state) (ltb (howManyIn (S .drives) (isIn w)) (S .need)) TooFewIn done′) (λ t. absurd (refusal-number t))
+          (λ _. unless-elim (Q (writing o n x)) (w .state) (ltb (howManyIn (S .drives) (isIn w)) (S .need)) TooFewIn done′ (λ t. absurd (refusal-number t)) (λ _ t. cc))
         where
           done′ : Outcome
           done′ = record { reply = numbered n; acts = replaceFile (w .state .number) n ∷ []; state = Steps.counting (w .state) n }
@@ -147,15 +147,15 @@ module _ (S : Site) (L : Laws S) (w : World) (I : Inv S w) where
         answers = answers;
         begins = begins;
         finishes = finishes;
-        oneVersion = λ v r m. one-version v r (mem-take (S .need) (piecesOf v (readingsOf S (w .disk))) m);
+        oneVersion = λ v r m. one-version v r (mem-take (S .need) (piecesOf v (readings S w)) m);
         unused = λ v c h. let u = I .consistent .used v c h in record { next = u .below; file = omega (arith, u .below, I .consistent .numbers, I .filed .number) };
         begun = I .sound .reads;
-        noFile = λ e. nothing-in (readingsOf S (w .disk)) (λ r m. let q = reading-right S L (w .past .content) (w .disk) (I .sound) m in let u = I .consistent .used (r .version) (q .whole) (q .used) in omega (arith, u .one, u .below, I .consistent .numbers, I .filed .number));
+        noFile = λ e. nothing-in (readings S w) (λ r m. let q = reading-right S L (w .past .content) (w .disk) (I .sound) m in let u = I .consistent .used (r .version) (q .whole) (q .used) in omega (arith, u .one, u .below, I .consistent .numbers, I .filed .number));
       }
     where
-      one-version : (v : ℕ) (r : Reading) → List·Memᴰ r (piecesOf v (readingsOf S (w .disk))) → OneVersion S w v r
+      one-version : (v : ℕ) (r : Reading) → List·Memᴰ r (piecesOf v (readings S w)) → OneVersion S w v r
       one-version v r m =
-          let q = mem-pieces v (readingsOf S (w .disk)) m in
+          let q = mem-pieces v (readings S w) m in
           let z = reading-right S L (w .past .content) (w .disk) (I .sound) (q .0) in
           record { version = q .1; content = z .whole; used = subst (λ x. w .past .content x ≡ Some (z .whole)) (q .1) (z .used); piece = z .piece }
 
@@ -174,16 +174,13 @@ mem-content C u x rs c one h = go (leb (u .need) (length (piecesOf x rs))) refl 
     from [] l k = absurd (omega arith)
     from (r ∷ qs) l k = let q = mem-pieces x rs (k r (List·Memᴰ·head refl)) in (r, q .0, q .1)
 
-    go : (b : Bool) → leb (u .need) (length (piecesOf x rs)) ≡ b → cond b (C .workOut (map Rattle.keeper.specs.Readings.given (take (u .need) (piecesOf x rs)))) None ≡ Some c → (r : Reading) × List·Memᴰ r rs × (r .version ≡ x)
+    go : (b : Bool) → leb (u .need) (length (piecesOf x rs)) ≡ b → cond b (C .workOut (map given (take (u .need) (piecesOf x rs)))) None ≡ Some c → (r : Reading) × List·Memᴰ r rs × (r .version ≡ x)
     go false e k = absurd (none-some k)
-    go true e k = from (piecesOf x rs) (Rattle.std.proofs.shelf.Tests.leb-true (u .need) (length (piecesOf x rs)) e) (λ _ m. m)
+    go true e k = from (piecesOf x rs) (leb-true (u .need) (length (piecesOf x rs)) e) (λ _ m. m)
 
 pub takes-highest : TakesHighest
 takes-highest C u bar rs one = record { found = found′; above = above′; none = none′ }
   where
-    best : Found
-    best = highest C u bar rs None rs
-
     covers : (x : ℕ) (c : List ℕ) → 1 ≤ x → bar ≤ x → contentOf C u x rs ≡ Some c → AtLeast x (highest C u bar rs None rs)
     covers x c l b h =
         let q = mem-content C u x rs c one h in

@@ -25,12 +25,12 @@ use Rattle.recovery.specs.Events.{Given, carriedOut}
 use Rattle.recovery.specs.Promise.{NewLast, NothingOlder, Fresh}
 use Rattle.recovery.proofs.Lists.{howMany-mono, howMany-not, mem-kept}
 use Rattle.recovery.proofs.Readings.{Read, mem-read, Holding, holder-holding, has-holding}
-use Rattle.recovery.proofs.Invariant.{Right, Sound, Used, Writing, Knowing, LastIsBar, Consistent, Filed, Inv}
+use Rattle.recovery.proofs.Invariant.{Right, Sound, Used, Writing, Knowing, LastIsBar, Consistent, Filed, Inv, readings, isIn, workedOut, best}
 use Rattle.recovery.proofs.Acts.{Strong, strong, not-weak, Keeps, refiled, NotLast, Spare, Clears, AllGentle, Goes, clears-gentle}
 use Rattle.recovery.proofs.Work.{some-same, none-some, works-out, worked, pieces-enough, Worked}
 use Rattle.recovery.proofs.Highest.{Good, AllGood, AtLeast, highest-good, highest-covers}
 use Rattle.recovery.proofs.Places.{free-place, free-spare, place-spare}
-use Rattle.recovery.proofs.Well.{bearable-kept, OneFile, Mild, WellDone, Well, unless-elim, raised-above, acting, idle, reserved, starting}
+use Rattle.recovery.proofs.Well.{bearable-kept, OneFile, Mild, WellDone, Well, using-old, unless-elim, raised-above, acting, idle, reserved, starting, Gently, Leads}
 
 -- What the tests of finish say.
 all-have : (n : ℕ) (isIn : ℕ → Bool) (v : ℕ) (rs : List Reading) → allHave n isIn v rs ≡ true → (d : ℕ) → d < n → isIn d ≡ true → holder d v rs ≡ true
@@ -82,9 +82,9 @@ module _ (S : Site) (L : Laws S) (w : World) (I : Inv S w) where
   beginning-well c f (writing o v x) e = idle S L w I (writing o v x) e (refused BeingWritten)
   beginning-well c f (counts v) e = unless-elim (Well S w (counts v)) (w .state) (leb lastNumber (w .state .next)) NoMoreVersions (record { reply = isVersion (w .state .next); acts = reserve (w .state); state = writingOn (w .state) v c }) (idle S L w I (counts v) e (refused NoMoreVersions)) go
     where
-      z : AllGentle S (w .past .content) (w .past .last) (w .state .number) (w .state .bar) (reserve (w .state)) (w .disk) × Goes S (w .past .content) (w .past .last) (raised (w .state)) (w .state .bar) (w .disk) (performAll S (reserve (w .state)) (w .disk))
+      z : Gently S w (reserve (w .state)) × Leads S w (raised (w .state)) (performAll S (reserve (w .state)) (w .disk))
       z =
-          subst (λ l. AllGentle S (w .past .content) (w .past .last) (w .state .number) (w .state .bar) l (w .disk) × Goes S (w .past .content) (w .past .last) (raised (w .state)) (w .state .bar) (w .disk) (performAll S l (w .disk))) (append-nil (reserve (w .state)))
+          subst (λ l. Gently S w l × Leads S w (raised (w .state)) (performAll S l (w .disk))) (append-nil (reserve (w .state)))
           (reserved S L w I [] (λ low m b. nothing low (filing m b (w .disk))))
         where
           nothing : (low : ℕ) (D : Disk) → AllGentle S (w .past .content) (w .past .last) low (w .state .bar) [] D
@@ -126,18 +126,18 @@ module _ (S : Site) (L : Laws S) (w : World) (I : Inv S w) where
   write-at k e r d v c l u None h = idle S L w I k e (refused NoPlace)
   write-at k e r d v c l u (Some x) h = unfolded-write k e r d v x c l (h x refl) u
 
-  writing-well : (d : ℕ) → d < S .drives → (k : Knowledge) → w .state .known ≡ k → Well S w k (Steps.writingTo (S .codec) (setup S (w .disk)) (w .state) d (readingsOf S (w .disk)) k)
+  writing-well : (d : ℕ) → d < S .drives → (k : Knowledge) → w .state .known ≡ k → Well S w k (Steps.writingTo (S .codec) (setup S (w .disk)) (w .state) d (readings S w) k)
   writing-well d l unsure e = idle S L w I unsure e (refused NotBeingWritten)
   writing-well d l (counts v) e = idle S L w I (counts v) e (refused NotBeingWritten)
   writing-well d l (writing o v c) e =
-      unless-elim (Well S w (writing o v c)) (w .state) (not (not (w .disk .out d))) DriveOut (Steps.writeAt (S .codec) (w .state) d v c done (placeFor places d v (readingsOf S (w .disk)))) (idle S L w I (writing o v c) e (refused DriveOut))
-      (λ h. write-at (writing o v c) e done d v c l (known-writing o v c e .used) (placeFor places d v (readingsOf S (w .disk))) (λ x p. place-spare S (w .disk) (w .past .last) d v x l (drive-in d h) (writing-last o v c e) p))
+      unless-elim (Well S w (writing o v c)) (w .state) (not (not (w .disk .out d))) DriveOut (Steps.writeAt (S .codec) (w .state) d v c done (placeFor places d v (readings S w))) (idle S L w I (writing o v c) e (refused DriveOut))
+      (λ h. write-at (writing o v c) e done d v c l (known-writing o v c e .used) (placeFor places d v (readings S w)) (λ x p. place-spare S (w .disk) (w .past .last) d v x l (drive-in d h) (writing-last o v c e) p))
 
-  write-well : (d : ℕ) → Well S w (w .state .known) (Steps.write (S .codec) (setup S (w .disk)) (w .state) d (readingsOf S (w .disk)))
-  write-well d = unless-elim (Well S w (w .state .known)) (w .state) (leb (S .drives) d) NoSuch (Steps.writingTo (S .codec) (setup S (w .disk)) (w .state) d (readingsOf S (w .disk)) (w .state .known)) (idle S L w I (w .state .known) refl (refused NoSuch)) (λ h. writing-well d (leb-false (S .drives) d h) (w .state .known) refl)
+  write-well : (d : ℕ) → Well S w (w .state .known) (Steps.write (S .codec) (setup S (w .disk)) (w .state) d (readings S w))
+  write-well d = unless-elim (Well S w (w .state .known)) (w .state) (leb (S .drives) d) NoSuch (Steps.writingTo (S .codec) (setup S (w .disk)) (w .state) d (readings S w) (w .state .known)) (idle S L w I (w .state .known) refl (refused NoSuch)) (λ h. writing-well d (leb-false (S .drives) d h) (w .state .known) refl)
 
   -- read
-  reading-well : (k : Knowledge) → w .state .known ≡ k → Well S w k (Steps.reading (S .codec) (setup S (w .disk)) (w .state) (readingsOf S (w .disk)) k)
+  reading-well : (k : Knowledge) → w .state .known ≡ k → Well S w k (Steps.reading (S .codec) (setup S (w .disk)) (w .state) (readings S w) k)
   reading-well unsure e = idle S L w I unsure e (refused Unsure)
   reading-well (writing o v c) e = idle S L w I (writing o v c) e (refused BeingWritten)
   reading-well (counts v) e = go (eqb v 0)
@@ -146,36 +146,36 @@ module _ (S : Site) (L : Laws S) (w : World) (I : Inv S w) where
       as-read None = idle S L w I (counts v) e (refused TooFewPieces)
       as-read (Some c) = idle S L w I (counts v) e (has v c)
 
-      go : (b : Bool) → Well S w (counts v) (cond b (Steps.tell (w .state) none) (Steps.readAs (w .state) v (contentOf (S .codec) (setup S (w .disk)) v (readingsOf S (w .disk)))))
+      go : (b : Bool) → Well S w (counts v) (cond b (Steps.tell (w .state) none) (Steps.readAs (w .state) v (workedOut S w v)))
       go true = idle S L w I (counts v) e none
-      go false = as-read (contentOf (S .codec) (setup S (w .disk)) v (readingsOf S (w .disk)))
+      go false = as-read (workedOut S w v)
 
   -- tidy and sweep
-  taking-away : (k : Knowledge) → w .state .known ≡ k → (rule : Reading → Bool) → ((r : Reading) → rule r ≡ true → (w .past .last ≡ 0) ⊎ (r .version ≡ w .past .last → ⊥)) → Well S w k (Steps.takeAway (w .state) rule (readingsOf S (w .disk)))
+  taking-away : (k : Knowledge) → w .state .known ≡ k → (rule : Reading → Bool) → ((r : Reading) → rule r ≡ true → (w .past .last ≡ 0) ⊎ (r .version ≡ w .past .last → ⊥)) → Well S w k (Steps.takeAway (w .state) rule (readings S w))
   taking-away k e rule h =
-      acting S L w I k e (removed (length (kept-by rule (readingsOf S (w .disk))))) (clears rule (readingsOf S (w .disk)))
-      (clears-gentle S L (w .past .content) (w .past .last) (w .state .number) (w .state .bar) (kept-by rule (readingsOf S (w .disk))) (w .disk) (clearable S (w .disk) (w .past .last) rule h (w .disk .number) (w .disk .bar)))
+      acting S L w I k e (removed (length (kept-by rule (readings S w)))) (clears rule (readings S w))
+      (clears-gentle S L (w .past .content) (w .past .last) (w .state .number) (w .state .bar) (kept-by rule (readings S w)) (w .disk) (clearable S (w .disk) (w .past .last) rule h (w .disk .number) (w .disk .bar)))
 
-  tidying-well : (d : ℕ) (k : Knowledge) → w .state .known ≡ k → Well S w k (Steps.tidying (setup S (w .disk)) (w .state) d (readingsOf S (w .disk)) k)
+  tidying-well : (d : ℕ) (k : Knowledge) → w .state .known ≡ k → Well S w k (Steps.tidying (setup S (w .disk)) (w .state) d (readings S w) k)
   tidying-well d unsure e = idle S L w I unsure e (refused Unsure)
   tidying-well d (writing o v c) e = idle S L w I (writing o v c) e (refused BeingWritten)
   tidying-well d (counts v) e =
-      unless-elim (Well S w (counts v)) (w .state) (not (not (w .disk .out d))) DriveOut (Steps.takeAway (w .state) (λ r. eqb (r .drive) d && not (eqb (r .version) v)) (readingsOf S (w .disk))) (idle S L w I (counts v) e (refused DriveOut))
+      unless-elim (Well S w (counts v)) (w .state) (not (not (w .disk .out d))) DriveOut (Steps.takeAway (w .state) (λ r. eqb (r .drive) d && not (eqb (r .version) v)) (readings S w)) (idle S L w I (counts v) e (refused DriveOut))
       (λ h. taking-away (counts v) e (λ r. eqb (r .drive) d && not (eqb (r .version) v)) other)
     where
       other : (r : Reading) → (eqb (r .drive) d && not (eqb (r .version) v)) ≡ true → (w .past .last ≡ 0) ⊎ (r .version ≡ w .past .last → ⊥)
       other r h = inr (λ q. eqb-false (r .version) v (not-true (eqb (r .version) v) (and-parts (eqb (r .drive) d) (not (eqb (r .version) v)) h .1)) (q ∙ sym (known-counts v e)))
 
-  tidy-well : (d : ℕ) → Well S w (w .state .known) (Steps.tidy (setup S (w .disk)) (w .state) d (readingsOf S (w .disk)))
-  tidy-well d = unless-elim (Well S w (w .state .known)) (w .state) (leb (S .drives) d) NoSuch (Steps.tidying (setup S (w .disk)) (w .state) d (readingsOf S (w .disk)) (w .state .known)) (idle S L w I (w .state .known) refl (refused NoSuch)) (λ h. tidying-well d (w .state .known) refl)
+  tidy-well : (d : ℕ) → Well S w (w .state .known) (Steps.tidy (setup S (w .disk)) (w .state) d (readings S w))
+  tidy-well d = unless-elim (Well S w (w .state .known)) (w .state) (leb (S .drives) d) NoSuch (Steps.tidying (setup S (w .disk)) (w .state) d (readings S w) (w .state .known)) (idle S L w I (w .state .known) refl (refused NoSuch)) (λ h. tidying-well d (w .state .known) refl)
 
-  sweep-well : (d : ℕ) → Well S w (w .state .known) (Steps.sweep (setup S (w .disk)) (w .state) d (readingsOf S (w .disk)))
+  sweep-well : (d : ℕ) → Well S w (w .state .known) (Steps.sweep (setup S (w .disk)) (w .state) d (readings S w))
   sweep-well d =
       unless-elim (Well S w (w .state .known)) (w .state) (leb (S .drives) d) NoSuch (unless (w .state) (not (not (w .disk .out d))) DriveOut swept) (idle S L w I (w .state .known) refl (refused NoSuch))
       (λ h. unless-elim (Well S w (w .state .known)) (w .state) (not (not (w .disk .out d))) DriveOut swept (idle S L w I (w .state .known) refl (refused DriveOut)) (λ g. taking-away (w .state .known) refl (λ r. eqb (r .drive) d && ltb (r .version) (w .state .bar)) other))
     where
       swept : Outcome
-      swept = Steps.takeAway (w .state) (λ r. eqb (r .drive) d && ltb (r .version) (w .state .bar)) (readingsOf S (w .disk))
+      swept = Steps.takeAway (w .state) (λ r. eqb (r .drive) d && ltb (r .version) (w .state .bar)) (readings S w)
 
       other : (r : Reading) → (eqb (r .drive) d && ltb (r .version) (w .state .bar)) ≡ true → (w .past .last ≡ 0) ⊎ (r .version ≡ w .past .last → ⊥)
       other r h =
@@ -183,42 +183,39 @@ module _ (S : Site) (L : Laws S) (w : World) (I : Inv S w) where
           elim (I .consistent .last) [ inl f ↦ inl f | inr f ↦ inr (λ q. omega (arith, f .bar, z, q)) ]
 
   -- mend
-  mending-well : (d : ℕ) → d < S .drives → (k : Knowledge) → w .state .known ≡ k → Well S w k (Steps.mending (S .codec) (setup S (w .disk)) (w .state) d (readingsOf S (w .disk)) k)
+  mending-well : (d : ℕ) → d < S .drives → (k : Knowledge) → w .state .known ≡ k → Well S w k (Steps.mending (S .codec) (setup S (w .disk)) (w .state) d (readings S w) k)
   mending-well d l unsure e = idle S L w I unsure e (refused Unsure)
   mending-well d l (writing o v c) e = idle S L w I (writing o v c) e (refused BeingWritten)
   mending-well d l (counts v) e = unless-elim (Well S w (counts v)) (w .state) (not (not (w .disk .out d))) DriveOut onward (idle S L w I (counts v) e (refused DriveOut)) (λ h. mend-in (drive-in d h) (eqb v 0))
     where
-      rs : List Reading
-      rs = readingsOf S (w .disk)
-
       again : Outcome
-      again = Steps.remake (S .codec) (w .state) d v (placeFor places d v (readingsOf S (w .disk))) (contentOf (S .codec) (setup S (w .disk)) v (readingsOf S (w .disk)))
+      again = Steps.remake (S .codec) (w .state) d v (placeFor places d v (readings S w)) (workedOut S w v)
 
       onward : Outcome
-      onward = cond (eqb v 0) (Steps.nothingToMend (w .state) (placeFor places d v (readingsOf S (w .disk)))) (cond (holder d v (readingsOf S (w .disk))) (Steps.tell (w .state) (mended 0)) again)
+      onward = cond (eqb v 0) (Steps.nothingToMend (w .state) (placeFor places d v (readings S w))) (cond (holder d v (readings S w)) (Steps.tell (w .state) (mended 0)) again)
 
       nothing : (p : Option ℕ) → Well S w (counts v) (Steps.nothingToMend (w .state) p)
       nothing None = idle S L w I (counts v) e (refused NoPlace)
       nothing (Some k) = idle S L w I (counts v) e (refused CountsNone)
 
-      remade : w .disk .out d ≡ false → (p : Option ℕ) → ((x : ℕ) → p ≡ Some x → Spare S (w .disk) (w .past .last) d x) → (o : Option (List ℕ)) → contentOf (S .codec) (setup S (w .disk)) v (readingsOf S (w .disk)) ≡ o → Well S w (counts v) (Steps.remake (S .codec) (w .state) d v p o)
+      remade : w .disk .out d ≡ false → (p : Option ℕ) → ((x : ℕ) → p ≡ Some x → Spare S (w .disk) (w .past .last) d x) → (o : Option (List ℕ)) → workedOut S w v ≡ o → Well S w (counts v) (Steps.remake (S .codec) (w .state) d v p o)
       remade i None h o q = idle S L w I (counts v) e (refused NoPlace)
       remade i (Some x) h None q = idle S L w I (counts v) e (refused TooFewPieces)
       remade i (Some x) h (Some c) q = write-at (counts v) e (mended 1) d v c l (works-out S L (w .past .content) (w .disk) (I .sound) fits v c q .used) (Some x) h
 
-      free : w .disk .out d ≡ false → holder d v (readingsOf S (w .disk)) ≡ false → (x : ℕ) → placeFor places d v (readingsOf S (w .disk)) ≡ Some x → Spare S (w .disk) (w .past .last) d x
-      free i h x p = free-spare S (w .disk) (w .past .last) d x l i (free-place places d 0 (readingsOf S (w .disk)) x (subst (λ b. cond b (ownPlace d v (readingsOf S (w .disk))) (freePlace places d 0 (readingsOf S (w .disk))) ≡ Some x) h p) .0)
+      free : w .disk .out d ≡ false → holder d v (readings S w) ≡ false → (x : ℕ) → placeFor places d v (readings S w) ≡ Some x → Spare S (w .disk) (w .past .last) d x
+      free i h x p = free-spare S (w .disk) (w .past .last) d x l i (free-place places d 0 (readings S w) x (subst (λ b. cond b (ownPlace d v (readings S w)) (freePlace places d 0 (readings S w)) ≡ Some x) h p) .0)
 
-      held : w .disk .out d ≡ false → (b : Bool) → holder d v (readingsOf S (w .disk)) ≡ b → Well S w (counts v) (cond b (Steps.tell (w .state) (mended 0)) again)
+      held : w .disk .out d ≡ false → (b : Bool) → holder d v (readings S w) ≡ b → Well S w (counts v) (cond b (Steps.tell (w .state) (mended 0)) again)
       held i true h = idle S L w I (counts v) e (mended 0)
-      held i false h = remade i (placeFor places d v (readingsOf S (w .disk))) (free i h) (contentOf (S .codec) (setup S (w .disk)) v (readingsOf S (w .disk))) refl
+      held i false h = remade i (placeFor places d v (readings S w)) (free i h) (workedOut S w v) refl
 
-      mend-in : w .disk .out d ≡ false → (b : Bool) → Well S w (counts v) (cond b (Steps.nothingToMend (w .state) (placeFor places d v (readingsOf S (w .disk)))) (cond (holder d v (readingsOf S (w .disk))) (Steps.tell (w .state) (mended 0)) again))
-      mend-in i true = nothing (placeFor places d v (readingsOf S (w .disk)))
-      mend-in i false = held i (holder d v (readingsOf S (w .disk))) refl
+      mend-in : w .disk .out d ≡ false → (b : Bool) → Well S w (counts v) (cond b (Steps.nothingToMend (w .state) (placeFor places d v (readings S w))) (cond (holder d v (readings S w)) (Steps.tell (w .state) (mended 0)) again))
+      mend-in i true = nothing (placeFor places d v (readings S w))
+      mend-in i false = held i (holder d v (readings S w)) refl
 
-  mend-well : (d : ℕ) → Well S w (w .state .known) (Steps.mend (S .codec) (setup S (w .disk)) (w .state) d (readingsOf S (w .disk)))
-  mend-well d = unless-elim (Well S w (w .state .known)) (w .state) (leb (S .drives) d) NoSuch (Steps.mending (S .codec) (setup S (w .disk)) (w .state) d (readingsOf S (w .disk)) (w .state .known)) (idle S L w I (w .state .known) refl (refused NoSuch)) (λ h. mending-well d (leb-false (S .drives) d h) (w .state .known) refl)
+  mend-well : (d : ℕ) → Well S w (w .state .known) (Steps.mend (S .codec) (setup S (w .disk)) (w .state) d (readings S w))
+  mend-well d = unless-elim (Well S w (w .state .known)) (w .state) (leb (S .drives) d) NoSuch (Steps.mending (S .codec) (setup S (w .disk)) (w .state) d (readings S w) (w .state .known)) (idle S L w I (w .state .known) refl (refused NoSuch)) (λ h. mending-well d (leb-false (S .drives) d h) (w .state .known) refl)
 
   -- give up
   giving-up-well : (k : Knowledge) → w .state .known ≡ k → Well S w k (Steps.givingUp (w .state) k)
@@ -235,7 +232,7 @@ module _ (S : Site) (L : Laws S) (w : World) (I : Inv S w) where
       }
 
   -- finish
-  finished : (o v : ℕ) (c : List ℕ) → w .state .known ≡ writing o v c → allHave (S .drives) (λ d. not (w .disk .out d)) v (readingsOf S (w .disk)) ≡ true → S .need ≤ howManyIn (S .drives) (λ d. not (w .disk .out d)) →
+  finished : (o v : ℕ) (c : List ℕ) → w .state .known ≡ writing o v c → allHave (S .drives) (isIn w) v (readings S w) ≡ true → S .need ≤ howManyIn (S .drives) (isIn w) →
       Well S w (writing o v c) (record { reply = isVersion v; acts = replaceFile (w .state .number) v ∷ []; state = counting (w .state) v })
   unfolding performAll
   finished o v c e all enough =
@@ -276,7 +273,7 @@ module _ (S : Site) (L : Laws S) (w : World) (I : Inv S w) where
 
       has-it : (x : ℕ) → x < S .drives → w .disk .out x ≡ false → Strong S D′ v x
       has-it x l i =
-          let q = holder-holding S (w .disk) x v (all-have (S .drives) (λ d. not (w .disk .out d)) v (readingsOf S (w .disk)) all x l (not-from-false (w .disk .out x) i)) .0 in
+          let q = holder-holding S (w .disk) x v (all-have (S .drives) (isIn w) v (readings S w) all x l (not-from-false (w .disk .out x) i)) .0 in
           record { isIn = i; has = inr (record { place = q .place; low = q .low; piece = q .piece; slot = q .slot }) }
 
       weak-out : (x : ℕ) → x < S .drives → weak S D′ v x ≡ true → w .disk .out x ≡ true
@@ -290,25 +287,25 @@ module _ (S : Site) (L : Laws S) (w : World) (I : Inv S w) where
       bearable′ =
           let a = howMany-mono (S .drives) (weak S D′ v) (w .disk .out) weak-out in
           let b = howMany-not (S .drives) (w .disk .out) in
-          let d = in-howMany (S .drives) (λ d. not (w .disk .out d)) in
+          let d = in-howMany (S .drives) (isIn w) in
           omega arith
 
-  finishing-well : (k : Knowledge) → w .state .known ≡ k → Well S w k (Steps.finishing (setup S (w .disk)) (w .state) (readingsOf S (w .disk)) k)
+  finishing-well : (k : Knowledge) → w .state .known ≡ k → Well S w k (Steps.finishing (setup S (w .disk)) (w .state) (readings S w) k)
   finishing-well unsure e = idle S L w I unsure e (refused NotBeingWritten)
   finishing-well (counts v) e = idle S L w I (counts v) e (refused NotBeingWritten)
   finishing-well (writing o v c) e =
-      unless-elim (Well S w (writing o v c)) (w .state) (not (allHave (S .drives) (λ d. not (w .disk .out d)) v (readingsOf S (w .disk)))) NotEverywhere rest (idle S L w I (writing o v c) e (refused NotEverywhere))
-      (λ h. unless-elim (Well S w (writing o v c)) (w .state) (ltb (howManyIn (S .drives) (λ d. not (w .disk .out d))) (S .need)) TooFewIn now (idle S L w I (writing o v c) e (refused TooFewIn))
-      (λ g. finished o v c e (not-false (allHave (S .drives) (λ d. not (w .disk .out d)) v (readingsOf S (w .disk))) h) (ltb-false (howManyIn (S .drives) (λ d. not (w .disk .out d))) (S .need) g)))
+      unless-elim (Well S w (writing o v c)) (w .state) (not (allHave (S .drives) (isIn w) v (readings S w))) NotEverywhere rest (idle S L w I (writing o v c) e (refused NotEverywhere))
+      (λ h. unless-elim (Well S w (writing o v c)) (w .state) (ltb (howManyIn (S .drives) (isIn w)) (S .need)) TooFewIn now (idle S L w I (writing o v c) e (refused TooFewIn))
+      (λ g. finished o v c e (not-false (allHave (S .drives) (isIn w) v (readings S w)) h) (ltb-false (howManyIn (S .drives) (isIn w)) (S .need) g)))
     where
       now : Outcome
       now = record { reply = isVersion v; acts = replaceFile (w .state .number) v ∷ []; state = counting (w .state) v }
 
       rest : Outcome
-      rest = unless (w .state) (ltb (howManyIn (S .drives) (λ d. not (w .disk .out d))) (S .need)) TooFewIn now
+      rest = unless (w .state) (ltb (howManyIn (S .drives) (isIn w)) (S .need)) TooFewIn now
 
   -- settle
-  none-left : highest (S .codec) (setup S (w .disk)) (w .state .bar) (readingsOf S (w .disk)) None (readingsOf S (w .disk)) ≡ None → w .past .last ≡ 0
+  none-left : best S w ≡ None → w .past .last ≡ 0
   none-left h = elim (I .consistent .last) [ inl e ↦ e | inr e ↦ absurd (go e) ]
     where
       go : LastIsBar (w .past) (w .state) → ⊥
@@ -319,8 +316,8 @@ module _ (S : Site) (L : Laws S) (w : World) (I : Inv S w) where
           let q = works-out S L (w .past .content) (w .disk) (I .sound) fits (w .past .last) (e .content) k in
           let v : q .reading .version ≡ w .past .last = q .version in
           let c =
-          highest-covers (S .codec) (setup S (w .disk)) (w .state .bar) (readingsOf S (w .disk)) None (readingsOf S (w .disk)) (q .among) (e .content) (omega (arith, v, u .one)) (omega (arith, v, e .bar))
-          (subst (λ x. contentOf (S .codec) (setup S (w .disk)) x (readingsOf S (w .disk)) ≡ Some (e .content)) (sym v) k)
+          highest-covers (S .codec) (setup S (w .disk)) (w .state .bar) (readings S w) None (readings S w) (q .among) (e .content) (omega (arith, v, u .one)) (omega (arith, v, e .bar))
+          (subst (λ x. workedOut S w x ≡ Some (e .content)) (sym v) k)
           in
           subst (AtLeast (q .reading .version)) h c
 
@@ -352,16 +349,16 @@ module _ (S : Site) (L : Laws S) (w : World) (I : Inv S w) where
       kept : Keeps S (w .disk) (w .past .last) (filing (raised (w .state)) (w .state .next) (w .disk)) (w .past .last)
       kept x l h = refiled S (w .disk) (w .past .last) (raised (w .state)) (w .state .next) x h
 
-  settled-on : (f : ℕ × List ℕ) → w .state .known ≡ unsure → w .state .next < lastNumber → Good (S .codec) (setup S (w .disk)) (w .state .bar) (readingsOf S (w .disk)) (f .0) (f .1) → Well S w unsure (Steps.settlingOn (w .state) (readingsOf S (w .disk)) (Some f))
+  settled-on : (f : ℕ × List ℕ) → w .state .known ≡ unsure → w .state .next < lastNumber → Good (S .codec) (setup S (w .disk)) (w .state .bar) (readings S w) (f .0) (f .1) → Well S w unsure (Steps.settlingOn (w .state) (readings S w) (Some f))
   settled-on f e small g =
-      starting S L w I (f .0) (f .1) (w .past .begun) (reserve (w .state) ++ clears rule (readingsOf S (w .disk))) (λ x m. m) (fits (f .0) (f .1) u) small (backed′ (I .consistent .used (f .0) (f .1) u .backed (g .bar))) (z .0) (z .1)
+      starting S L w I (f .0) (f .1) (w .past .begun) (reserve (w .state) ++ clears rule (readings S w)) (λ x m. m) (fits (f .0) (f .1) u) small (backed′ (I .consistent .used (f .0) (f .1) u .backed (g .bar))) (z .0) (z .1)
     where
       u : w .past .content (f .0) ≡ Some (f .1)
       u = works-out S L (w .past .content) (w .disk) (I .sound) fits (f .0) (f .1) (g .content) .used
 
       backed′ : Backed (w .past) (f .1) → Backed (record { content = using′ (w .state .next) (f .1) (w .past .content); begun = w .past .begun; last = w .past .last }) (f .1)
       backed′ (inr m) = inr m
-      backed′ (inl b) = inl (record { finished = b .finished; content = Rattle.recovery.proofs.Well.using-old (w .state .next) (f .1) (w .past .content) (w .past .last) (λ q. omega (arith, last-below)) ∙ b .content })
+      backed′ (inl b) = inl (record { finished = b .finished; content = using-old (w .state .next) (f .1) (w .past .content) (w .past .last) (λ q. omega (arith, last-below)) ∙ b .content })
 
       rule : Reading → Bool
       rule r = not (eqb (r .version) (f .0) || eqb (r .version) (w .state .bar))
@@ -371,20 +368,17 @@ module _ (S : Site) (L : Laws S) (w : World) (I : Inv S w) where
           let q = or-parts (eqb (r .version) (f .0)) (eqb (r .version) (w .state .bar)) (not-true (eqb (r .version) (f .0) || eqb (r .version) (w .state .bar)) h) in
           elim (I .consistent .last) [ inl l ↦ inl l | inr l ↦ inr (λ t. eqb-false (r .version) (w .state .bar) (q .1) (t ∙ l .bar)) ]
 
-      z : AllGentle S (w .past .content) (w .past .last) (w .state .number) (w .state .bar) (reserve (w .state) ++ clears rule (readingsOf S (w .disk))) (w .disk) × Goes S (w .past .content) (w .past .last) (raised (w .state)) (w .state .bar) (w .disk) (performAll S (reserve (w .state) ++ clears rule (readingsOf S (w .disk))) (w .disk))
-      z = reserved S L w I (clears rule (readingsOf S (w .disk))) (λ low m b. clears-gentle S L (w .past .content) (w .past .last) low (w .state .bar) (kept-by rule (readingsOf S (w .disk))) (filing m b (w .disk)) (clearable S (w .disk) (w .past .last) rule other m b))
+      z : Gently S w (reserve (w .state) ++ clears rule (readings S w)) × Leads S w (raised (w .state)) (performAll S (reserve (w .state) ++ clears rule (readings S w)) (w .disk))
+      z = reserved S L w I (clears rule (readings S w)) (λ low m b. clears-gentle S L (w .past .content) (w .past .last) low (w .state .bar) (kept-by rule (readings S w)) (filing m b (w .disk)) (clearable S (w .disk) (w .past .last) rule other m b))
 
-  settling-well : (k : Knowledge) → w .state .known ≡ k → Well S w k (Steps.settling (S .codec) (setup S (w .disk)) (w .state) (readingsOf S (w .disk)) k)
+  settling-well : (k : Knowledge) → w .state .known ≡ k → Well S w k (Steps.settling (S .codec) (setup S (w .disk)) (w .state) (readings S w) k)
   settling-well (counts v) e = idle S L w I (counts v) e (refused NotUnsure)
   settling-well (writing o v c) e = idle S L w I (writing o v c) e (refused NotUnsure)
   settling-well unsure e =
-      unless-elim (Well S w unsure) (w .state) (leb lastNumber (w .state .next)) NoMoreVersions (Steps.settlingOn (w .state) (readingsOf S (w .disk)) best) (idle S L w I unsure e (refused NoMoreVersions))
-      (λ h. go (leb-false lastNumber (w .state .next) h) best refl (highest-good (S .codec) (setup S (w .disk)) (w .state .bar) (readingsOf S (w .disk)) None (readingsOf S (w .disk)) tt))
+      unless-elim (Well S w unsure) (w .state) (leb lastNumber (w .state .next)) NoMoreVersions (Steps.settlingOn (w .state) (readings S w) (best S w)) (idle S L w I unsure e (refused NoMoreVersions))
+      (λ h. go (leb-false lastNumber (w .state .next) h) (best S w) refl (highest-good (S .codec) (setup S (w .disk)) (w .state .bar) (readings S w) None (readings S w) tt))
     where
-      best : Found
-      best = highest (S .codec) (setup S (w .disk)) (w .state .bar) (readingsOf S (w .disk)) None (readingsOf S (w .disk))
-
-      go : w .state .next < lastNumber → (f : Found) → highest (S .codec) (setup S (w .disk)) (w .state .bar) (readingsOf S (w .disk)) None (readingsOf S (w .disk)) ≡ f → AllGood (S .codec) (setup S (w .disk)) (w .state .bar) (readingsOf S (w .disk)) f → Well S w unsure (Steps.settlingOn (w .state) (readingsOf S (w .disk)) f)
+      go : w .state .next < lastNumber → (f : Found) → best S w ≡ f → AllGood (S .codec) (setup S (w .disk)) (w .state .bar) (readings S w) f → Well S w unsure (Steps.settlingOn (w .state) (readings S w) f)
       go small None h g = settled-none e (none-left h)
       go small (Some f) h g = settled-on f e small g
 

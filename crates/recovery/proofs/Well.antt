@@ -32,6 +32,13 @@ bearable-kept S D last D′ last′ k h = let z = howMany-mono (S .drives) (weak
         go true f = f
         go false f = absurd (true≢false (sym e ∙ not-weak S D′ last′ d (k d l (strong S D last d f))))
 
+-- Acts that are gentle in a world, and where such acts lead, the file's number not below this one.
+abbrev pub Gently : Site → World → List Act → Type 0
+Gently S w as′ = AllGentle S (w .past .content) (w .past .last) (w .state .number) (w .state .bar) as′ (w .disk)
+
+abbrev pub Leads : Site → World → (low : ℕ) → Disk → Type 0
+Leads S w low D′ = Goes S (w .past .content) (w .past .last) low (w .state .bar) (w .disk) D′
+
 -- Acts that can be cut anywhere: gentle ones, or the replacing of the file alone.
 pub record OneFile (as′ : List Act) : Type 0 where
   pub number : ℕ
@@ -39,7 +46,7 @@ pub record OneFile (as′ : List Act) : Type 0 where
   pub is : as′ ≡ replaceFile number bar ∷ []
 
 abbrev pub Mild : Site → World → List Act → Type 0
-Mild S w as′ = AllGentle S (w .past .content) (w .past .last) (w .state .number) (w .state .bar) as′ (w .disk) ⊎ OneFile as′
+Mild S w as′ = Gently S w as′ ⊎ OneFile as′
 
 pub record WellDone (S : Site) (w : World) (as′ : List Act) (w′ : World) : Type 0 where
   pub mild : Mild S w as′
@@ -83,7 +90,7 @@ raised-above s h = go (leb (s .number) (s .next)) refl
 
 module _ (S : Site) (L : Laws S) (w : World) (I : Inv S w) where
   -- A step that only acts gently.
-  pub acting : (k : Knowledge) → w .state .known ≡ k → (r : Reply) (as′ : List Act) → AllGentle S (w .past .content) (w .past .last) (w .state .number) (w .state .bar) as′ (w .disk) →
+  pub acting : (k : Knowledge) → w .state .known ≡ k → (r : Reply) (as′ : List Act) → Gently S w as′ →
       Well S w k (record { reply = r; acts = as′; state = w .state })
   acting k e r as′ g =
       subst (λ (P : Past). WellDone S w as′ (record { disk = performAll S as′ (w .disk); state = w .state; past = P }))
@@ -96,7 +103,7 @@ module _ (S : Site) (L : Laws S) (w : World) (I : Inv S w) where
         fresh = record { kept = λ v c h. h; new = λ v c h. inl h; next = omega arith; number = omega arith };
       })
     where
-      z : Goes S (w .past .content) (w .past .last) (w .state .number) (w .state .bar) (w .disk) (performAll S as′ (w .disk))
+      z : Leads S w (w .state .number) (performAll S as′ (w .disk))
       z = all-go S L (w .past .content) (w .past .last) (w .state .number) (w .state .bar) as′ (w .disk) (I .sound) (I .filed) g
 
   pub idle : (k : Knowledge) → w .state .known ≡ k → (r : Reply) → Well S w k (record { reply = r; acts = []; state = w .state })
@@ -105,8 +112,8 @@ module _ (S : Site) (L : Laws S) (w : World) (I : Inv S w) where
 
   -- The file's number is raised where that is due, and then other acts are done.
   pub reserved : (rest : List Act) → ((low m b : ℕ) → AllGentle S (w .past .content) (w .past .last) low (w .state .bar) rest (filing m b (w .disk))) →
-      AllGentle S (w .past .content) (w .past .last) (w .state .number) (w .state .bar) (reserve (w .state) ++ rest) (w .disk) ×
-      Goes S (w .past .content) (w .past .last) (raised (w .state)) (w .state .bar) (w .disk) (performAll S (reserve (w .state) ++ rest) (w .disk))
+      Gently S w (reserve (w .state) ++ rest) ×
+      Leads S w (raised (w .state)) (performAll S (reserve (w .state) ++ rest) (w .disk))
   unfolding AllGentle performAll
   reserved rest g = go (leb (w .state .number) (w .state .next))
     where
@@ -134,8 +141,8 @@ module _ (S : Site) (L : Laws S) (w : World) (I : Inv S w) where
   -- The next version is begun, for a content that is backed.
   pub starting : (v : ℕ) (c : List ℕ) (begun : List (List ℕ)) (as′ : List Act) → ((x : List ℕ) → List·Memᴰ x (w .past .begun) → List·Memᴰ x begun) → Content c → w .state .next < lastNumber →
       Backed (record { content = using′ (w .state .next) c (w .past .content); begun = begun; last = w .past .last }) c →
-      AllGentle S (w .past .content) (w .past .last) (w .state .number) (w .state .bar) as′ (w .disk) →
-      Goes S (w .past .content) (w .past .last) (raised (w .state)) (w .state .bar) (w .disk) (performAll S as′ (w .disk)) →
+      Gently S w as′ →
+      Leads S w (raised (w .state)) (performAll S as′ (w .disk)) →
       WellDone S w as′ (record { disk = performAll S as′ (w .disk); state = writingOn (w .state) v c; past = record { content = using′ (w .state .next) c (w .past .content); begun = begun; last = w .past .last } })
   starting v c begun as′ more fits small backed g z =
       record {
