@@ -84,9 +84,16 @@ pub mul-inv : (a : ℕ) → IsByte a → 1 ≤ a → mul a (inv a) ≡ 1
 mul-inv zero h some = absurd (omega arith)
 mul-inv (suc k) h some = suc-inv k (omega arith)
 
+inv-mul : (a : ℕ) → IsByte a → 1 ≤ a → mul (inv a) a ≡ 1
+inv-mul a h some = mul-comm (inv a) a (inv-byte a) h ∙ mul-inv a h some
+
+-- A quotient times what was divided by is what was divided.
+pub quotient-mul : (a b : ℕ) → IsByte a → IsByte b → 1 ≤ b → mul (mul a (inv b)) b ≡ a
+quotient-mul a b ha hb some = mul-assoc a (inv b) b ha (inv-byte b) hb ∙ ap (mul a) (inv-mul b hb some) ∙ mul-one a ha
+
 pub mul-is-zero : (a b : ℕ) → IsByte a → IsByte b → mul a b ≡ 0 → (a ≡ 0) ⊎ (b ≡ 0)
 mul-is-zero zero b ha hb e = inl refl
 mul-is-zero (suc k) b ha hb e =
     let a : ℕ = suc k in
-    let one : mul (inv a) a ≡ 1 = mul-comm (inv a) a (inv-byte a) ha ∙ mul-inv a ha (omega arith) in
-    inr (sym (one-mul b hb) ∙ ap (λ x. mul x b) (sym one) ∙ mul-assoc (inv a) a b (inv-byte a) ha hb ∙ ap (mul (inv a)) e ∙ mul-zero (inv a))
+    inr (sym (one-mul b hb) ∙ ap (λ x. mul x b) (sym (inv-mul a ha (omega arith))) ∙ mul-assoc (inv a) a b (inv-byte a) ha hb
+    ∙ ap (mul (inv a)) e ∙ mul-zero (inv a))

@@ -12,7 +12,7 @@ use lib.Pow.{pow-mono}
 use Rattle.std.proofs.shelf.Tests.{cases-lt}
 use Rattle.bytes.specs.Byte.{plus, add, twice, times, mul, IsByte}
 use Rattle.bytes.proofs.Computed.{every, every-at, agree, agree-at, agree₂, agree₂-at}
-use Rattle.bytes.proofs.Sums.{byte-xor, add-byte, add-comm, add-assoc, add-self, add-swap, zero-add}
+use Rattle.bytes.proofs.Sums.{byte-xor, add-byte, add-comm, add-assoc, add-self, add-swap, zero-add, exchange}
 
 -- The exclusive or that a byte times x is: of the byte moved up by one, and the polynomial if the byte's top bit is set.
 twice-xor : (a : ℕ) → IsByte a → twice a ≡ bitXor (a * 2) (a / 128 * 283)
@@ -32,12 +32,6 @@ double-xor a b =
     let e : bitXor (a * 2 + 0) (b * 2 + 0) ≡ bitXor a b * 2 + 0 = xor-block 1 a b 0 0 (omega arith) (omega arith) in
     sym (nat-add-zero (bitXor a b * 2)) ∙ sym e ∙ ap₂ bitXor (nat-add-zero (a * 2)) (nat-add-zero (b * 2))
 
-xor-swap : (a b c d : ℕ) → bitXor (bitXor a b) (bitXor c d) ≡ bitXor (bitXor a c) (bitXor b d)
-xor-swap a b c d =
-    xor-assoc a b (bitXor c d)
-    ∙ ap (λ x. bitXor a x) (sym (xor-assoc b c d) ∙ ap (λ x. bitXor x d) (xor-comm b c) ∙ xor-assoc c b d)
-    ∙ sym (xor-assoc a c (bitXor b d))
-
 pub twice-add : (a b : ℕ) → IsByte a → IsByte b → twice (add a b) ≡ add (twice a) (twice b)
 twice-add a b ha hb =
     let top : bitXor a b / 128 * 283 ≡ bitXor (a / 128 * 283) (b / 128 * 283) =
@@ -45,7 +39,7 @@ twice-add a b ha hb =
     twice-xor (add a b) (add-byte a b)
     ∙ ap (λ x. bitXor (x * 2) (x / 128 * 283)) (byte-xor a b ha hb)
     ∙ ap₂ bitXor (double-xor a b) top
-    ∙ xor-swap (a * 2) (b * 2) (a / 128 * 283) (b / 128 * 283)
+    ∙ exchange bitXor xor-comm xor-assoc (a * 2) (b * 2) (a / 128 * 283) (b / 128 * 283)
     ∙ sym (ap₂ bitXor (twice-xor a ha) (twice-xor b hb))
     ∙ sym (byte-xor (twice a) (twice b) (twice-byte a ha) (twice-byte b hb))
 
@@ -109,14 +103,16 @@ Linear f = (a b : ℕ) → IsByte a → IsByte b → f (add a b) ≡ add (f a) (
 linear-zero : (f : ℕ → ℕ) → Linear f → f 0 ≡ 0
 linear-zero f l = ap f (sym (add-self 0)) ∙ l 0 0 (omega arith) (omega arith) ∙ add-self (f 0)
 
--- A number with its highest bit taken off.
-split-top : (n a : ℕ) → n < 8 → 2 ^ n ≤ a → a < 2 ^ suc n → add (2 ^ n) (a - 2 ^ n) ≡ a
+-- A number with its highest bit taken off: what is left, and that both parts are bytes and sum up to it.
+split-top : (n a : ℕ) → n < 8 → 2 ^ n ≤ a → a < 2 ^ suc n
+    → (a - 2 ^ n < 2 ^ n) × IsByte (2 ^ n) × IsByte (a - 2 ^ n) × (add (2 ^ n) (a - 2 ^ n) ≡ a)
 split-top n a hn low high =
     let twofold : 2 ^ suc n ≡ 2 ^ n * 2 = pow-suc 2 n in
     let top : 2 ^ n ≤ 128 = pow-mono {i = n} {j = 7} (omega arith) in
-    let apart : bitXor (1 * 2 ^ n) (a - 2 ^ n) ≡ 1 * 2 ^ n + (a - 2 ^ n) = xor-shifted 1 n (a - 2 ^ n) (omega arith) in
-    byte-xor (2 ^ n) (a - 2 ^ n) (omega arith) (omega arith)
-    ∙ ap (λ x. bitXor x (a - 2 ^ n)) (sym (one-mul (2 ^ n))) ∙ apart ∙ omega arith
+    let less : a - 2 ^ n < 2 ^ n = omega arith in
+    let apart : bitXor (1 * 2 ^ n) (a - 2 ^ n) ≡ 1 * 2 ^ n + (a - 2 ^ n) = xor-shifted 1 n (a - 2 ^ n) less in
+    let whole : bitXor (2 ^ n) (a - 2 ^ n) ≡ a = ap (λ x. bitXor x (a - 2 ^ n)) (sym (one-mul (2 ^ n))) ∙ apart ∙ omega arith in
+    (less, omega arith, omega arith, byte-xor (2 ^ n) (a - 2 ^ n) (omega arith) (omega arith) ∙ whole)
 
 upto : (f g : ℕ → ℕ) → Linear f → Linear g → ((i : ℕ) → i < 8 → f (2 ^ i) ≡ g (2 ^ i)) → (n : ℕ) → n ≤ 8 → (a : ℕ) → a < 2 ^ n → f a ≡ g a
 upto f g lf lg same zero hn a h =
@@ -126,12 +122,10 @@ upto f g lf lg same (suc n) hn a h =
     ⊎-elim (λ less. upto f g lf lg same n (omega arith) a less)
     (λ more.
     let r : ℕ = a - 2 ^ n in
-    let twofold : 2 ^ suc n ≡ 2 ^ n * 2 = pow-suc 2 n in
-    let top : 2 ^ n ≤ 128 = pow-mono {i = n} {j = 7} (omega arith) in
-    let e : add (2 ^ n) r ≡ a = split-top n a hn more h in
-    ap f (sym e) ∙ lf (2 ^ n) r (omega arith) (omega arith)
-    ∙ ap₂ add (same n hn) (upto f g lf lg same n (omega arith) r (omega arith))
-    ∙ sym (lg (2 ^ n) r (omega arith) (omega arith)) ∙ ap g e)
+    let s = split-top n a hn more h in
+    ap f (sym (s .3)) ∙ lf (2 ^ n) r (s .1) (s .2)
+    ∙ ap₂ add (same n hn) (upto f g lf lg same n (omega arith) r (s .0))
+    ∙ sym (lg (2 ^ n) r (s .1) (s .2)) ∙ ap g (s .3))
     (cases-lt a (2 ^ n))
 
 -- Two linear functions that agree at the bytes with one bit agree at all bytes.

@@ -56,12 +56,16 @@ zero-add a h = add-xor 0 a ∙ mod-eq-of-lt h
 pub add-zero : (a : ℕ) → IsByte a → add a 0 ≡ a
 add-zero a h = add-comm a 0 ∙ zero-add a h
 
--- Two sums, taken pair by pair in another order.
+-- Two sums, taken pair by pair in another order, of any sum in which order and grouping don't count.
+pub exchange : (op : ℕ → ℕ → ℕ) → ((a b : ℕ) → op a b ≡ op b a) → ((a b c : ℕ) → op (op a b) c ≡ op a (op b c))
+    → (a b c d : ℕ) → op (op a b) (op c d) ≡ op (op a c) (op b d)
+exchange op comm assoc a b c d =
+    assoc a b (op c d)
+    ∙ ap (op a) (sym (assoc b c d) ∙ ap (λ x. op x d) (comm b c) ∙ assoc c b d)
+    ∙ sym (assoc a c (op b d))
+
 pub add-swap : (a b c d : ℕ) → add (add a b) (add c d) ≡ add (add a c) (add b d)
-add-swap a b c d =
-    add-assoc a b (add c d)
-    ∙ ap (λ x. add a x) (sym (add-assoc b c d) ∙ ap (λ x. add x d) (add-comm b c) ∙ add-assoc c b d)
-    ∙ sym (add-assoc a c (add b d))
+add-swap = exchange add add-comm add-assoc
 
 pub add-is-zero : (a b : ℕ) → IsByte a → IsByte b → add a b ≡ 0 → a ≡ b
 add-is-zero a b ha hb e =

@@ -18,7 +18,7 @@ unfolding mul
 start a b = ap (λ n. add 0 (times 8 a n)) (omega arith) ∙ zero-add (mul a b) (mul-byte a b)
 
 pub turn : (i total shifted b : ℕ) → i < 8
-  → with-rest (i + 1) (add total (cond (eqb (b / 2 ^ i % 2) 1) shifted 0)) (twice shifted) b ≡ with-rest i total shifted b
+    → with-rest (i + 1) (add total (cond (eqb (b / 2 ^ i % 2) 1) shifted 0)) (twice shifted) b ≡ with-rest i total shifted b
 unfolding times
 turn i total shifted b below =
     let n : ℕ = 8 - (i + 1) in

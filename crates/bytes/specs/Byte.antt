@@ -48,5 +48,6 @@ inverseOf a = cond (eqb a 0) None (Some (inv a))
 abbrev pub quotientOf : ℕ → ℕ → Option ℕ
 quotientOf a b = cond (eqb b 0) None (Some (mul a (inv b)))
 
+-- The numbers that a byte holds.
 abbrev pub IsByte : ℕ → Type 0
 IsByte a = a < 256

@@ -2,7 +2,7 @@
 -- Assumes nothing.
 use mathlib.Core.Path.{_≡_}
 use Prim.Native.Nat.{ℕ, _≤_}
-use Rattle.bytes.specs.Byte.{add, mul, IsByte}
+use Rattle.bytes.specs.Byte.{add, mul, inv, IsByte}
 
 pub record Field : Type 0 where
   -- sums and products of bytes are bytes
@@ -19,4 +19,7 @@ pub record Field : Type 0 where
   pub mul-neutral : (a : ℕ) → IsByte a → mul a 1 ≡ a
   -- every byte is its own negative, and every byte but 0 has an inverse
   pub negative : (a : ℕ) → IsByte a → add a a ≡ 0
-  pub inverse : (a : ℕ) → IsByte a → 1 ≤ a → (b : ℕ) × IsByte b × (mul a b ≡ 1)
+  pub inv-closed : (a : ℕ) → IsByte a → 1 ≤ a → IsByte (inv a)
+  pub inverse : (a : ℕ) → IsByte a → 1 ≤ a → mul a (inv a) ≡ 1
+  -- so that a quotient times what was divided by is what was divided
+  pub divides : (a b : ℕ) → IsByte a → IsByte b → 1 ≤ b → mul (mul a (inv b)) b ≡ a

@@ -3,7 +3,7 @@ ghost use mathlib.Core.Bool.{cond};
 ghost use mathlib.Core.Path.{_≡_};
 ghost use Prim.Native.Nat.{_/_, _%_, _^_, _<_};
 ghost use lib.Dec.{eqb};
-ghost use Rattle.bytes.specs.Byte.{add, twice, mul, fourth, inverseOf, quotientOf};
+ghost use Rattle.bytes.specs.Byte.{add, twice, mul, fourth, inv, inverseOf, quotientOf};
 ghost use Rattle.bytes.specs.Field.{Field};
 
 // The bits of x^4 + x^3 + x + 1, which is what x^8 comes to. (With x^8 itself the polynomial is 0x11b.)
@@ -51,18 +51,28 @@ fn fourth_power(a: u8) -> u8
     product(square, square)
 }
 
-// The 254th power of `a`, since the 255th of every byte but 0 is 1; `None` for 0, which has no inverse.
+// The 254th power of `a`, by eleven products.
+fn power_254(a: u8) -> u8
+    ensures { λ r. ⌜ r ≡ inv a ⌝ }
+{
+    let second = product(a, a);
+    let third = product(second, a);
+    let twelfth = fourth_power(third);
+    let fifteenth = product(twelfth, third);
+    product(
+        fourth_power(fourth_power(fifteenth)),
+        product(twelfth, second),
+    )
+}
+
+// What times `a` is 1: the 254th power, since the 255th of every byte but 0 is 1. `None` for 0, which has no inverse.
 pub fn inverse(a: u8) -> Option<u8>
     ensures { λ r. ⌜ r ≡ inverseOf a ⌝ }
 {
     if a == 0 {
         return None;
     }
-    let second = product(a, a);
-    let third = product(second, a);
-    let twelfth = fourth_power(third);
-    let fifteenth = product(twelfth, third);
-    Some(product(fourth_power(fourth_power(fifteenth)), product(twelfth, second)))
+    Some(power_254(a))
 }
 
 // What times `b` is `a`; `None` where `b` is 0.

@@ -8,7 +8,7 @@ use crate::field::sum;
 pub fn add_scaled(dst: &mut [u8], factor: u8, src: &[u8])
     ensures { λ _. ⌜ now (dst .exit) ≡ addScaled factor (now (dst .entry)) (now (src .entry)) ⌝ }
 {
-    let shared = if dst.len() < src.len() { dst.len() } else { src.len() };
+    let shared = dst.len().min(src.len());
     for i in 0..shared {
         dst[i] = sum(dst[i], product(factor, src[i]));
     }

@@ -1,3 +1,5 @@
+-- The shift and the polynomial are the byte times x.
+-- Assumes nothing.
 use mathlib.Core.Path.{ap, _∙_}
 use Prim.Native.Nat.{_*_, _%_}
 use lib.Bits.{bitXor}

@@ -1,5 +1,6 @@
-use Rattle.bytes.specs.Byte.{inv}
-use Rattle.bytes.proofs.Laws.{add-comm, add-assoc, add-self, add-byte, add-zero, mul-byte, mul-comm, mul-assoc, mul-add, mul-one, mul-inv, inv-byte}
+-- Bytes are a field, by the laws.
+-- Assumes nothing.
+use Rattle.bytes.proofs.Laws.{add-comm, add-assoc, add-self, add-byte, add-zero, mul-byte, mul-comm, mul-assoc, mul-add, mul-one, mul-inv, inv-byte, quotient-mul}
 use Rattle.bytes.proofs.field.field_stands.Needs as need
 
 pub returns : need.returns
@@ -15,5 +16,7 @@ returns c =
       add-neutral = add-zero;
       mul-neutral = mul-one;
       negative = λ a ha. add-self a;
-      inverse = λ a ha some. (inv a, inv-byte a, mul-inv a ha some)
+      inv-closed = λ a ha some. inv-byte a;
+      inverse = mul-inv;
+      divides = quotient-mul;
     }

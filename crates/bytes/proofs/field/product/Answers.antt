@@ -1,10 +1,9 @@
+-- The turns of the loop of `product`.
+-- Assumes nothing.
 use mathlib.Core.Path.{sym, _∙_}
 use borrow.Author.Needs.{needs}
 use Rattle.bytes.proofs.Turns.{start, turn, finish}
 use Rattle.bytes.proofs.field.product.Needs as need
-
-pub loop-i-holds : need.loop-i-holds
-loop-i-holds c = (search needs, start (c .args .a) (c .args .b))
 
 pub loop-i-again : need.loop-i-again
 loop-i-again c =
@@ -12,4 +11,6 @@ loop-i-again c =
     (search needs, cc)
 
 pub returns : need.returns
-returns c = sym (finish (c .loop-i .i) (c .loop-i .total) (c .loop-i .shifted) (c .args .b) (c .loop-i-test .left) (c .loop-i .inv .0)) ∙ c .loop-i .inv .1
+returns c =
+    sym (finish (c .loop-i .i) (c .loop-i .total) (c .loop-i .shifted) (c .args .b) (c .loop-i-test .left) (c .loop-i .inv .0))
+    ∙ c .loop-i .inv .1 ∙ start (c .args .a) (c .args .b)

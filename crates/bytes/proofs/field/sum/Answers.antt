@@ -1,3 +1,5 @@
+-- The exclusive or of two bytes is their sum.
+-- Assumes nothing.
 use mathlib.Core.Path.{sym}
 use borrow.Author.Needs.{needs}
 use Rattle.bytes.proofs.Sums.{byte-xor}

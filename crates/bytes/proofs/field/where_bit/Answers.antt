@@ -1,3 +1,5 @@
+-- The mask is what the bit picks.
+-- Assumes nothing.
 use Prim.Native.Nat.{_/_, _^_}
 use borrow.Author.Needs.{needs}
 use Rattle.bytes.proofs.Masks.{masked}

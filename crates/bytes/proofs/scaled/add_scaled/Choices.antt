@@ -1,3 +1,5 @@
+-- What `add_scaled` has done after so many bytes, with the rest still to be done, is the whole.
+-- Assumes nothing.
 use mathlib.Core.Path.{_≡_}
 use Rattle.bytes.specs.Slices.{addScaled}
 use Rattle.bytes.proofs.Slices.{done-from}
