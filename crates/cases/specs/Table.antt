@@ -43,7 +43,7 @@ pub data Row : Type 0 where
 abbrev pub versionsIn : List Reading → List (ℕ × ℕ)
 versionsIn rs = map (λ r. (r .drive, r .version)) rs
 
--- What is claimed of the world after events, whichever function works contents out of pieces. There is one (`CanWork` of recovery).
+-- What is claimed of the world after events, whichever function works contents out of pieces. There is one (`SomeWorksOut` of the crate codec).
 -- Only what it gives is known of it here.
 abbrev pub After : List Event → (WorkOut → World → Type 0) → Type 0
 After events claim = (f : WorkOut) → WorksOut 2 f → claim f (play (site f) events atFirst)

@@ -69,5 +69,5 @@ pub firsts-filled : (bytes : List ℕ) (o d : ℕ) (all xs : List (Option ℕ)) 
     ((k : ℕ) → k < 4 → getD xs k None ≡ getD (firsts all) k None) → xs ≡ map versionOf (distinct (readings bytes o d))
 firsts-filled bytes o d all xs e long each =
     let four : length (firsts all) ≡ 4 =
-      length-firstsAfter (λ v. v) None [] all ∙ ap length e ∙ length-map (readings bytes o d) versionOf ∙ length-readings bytes o d in
+    length-firstsAfter (λ v. v) None [] all ∙ ap length e ∙ length-map (readings bytes o d) versionOf ∙ length-readings bytes o d in
     ext-getD None xs (firsts all) (long ∙ sym four) (λ i h. each i (omega arith)) ∙ ap firsts e ∙ firsts-readings (readings bytes o d)

@@ -37,10 +37,11 @@ record There (bytes p : List ℕ) (o d v k : ℕ) : Type 0 where
 there-by : (bytes p : List ℕ) (o d v k : ℕ) (r : Option ℕ) → r ≡ placeFor v (readings bytes o d) → answerAt bytes o p r ≡ Ok k → There bytes p o d v k
 there-by bytes p o d v k None e a = let z : _≡_ {A = ℕ} 0 1 = cc in absurd (omega arith)
 there-by bytes p o d v k (Some j) e a =
-    elim (cases-bool (hasRoom (slotAt bytes o j) p))
-    [ inl t ↦ (let f = cond-true {A = Result ℕ Unwritten} (hasRoom (slotAt bytes o j) p) (Ok j) (Err NoRoom) t in
-      let same : j ≡ k = cc in record { place = ap Some (sym same) ∙ e; room = ap (λ i. hasRoom (slotAt bytes o i) p) (sym same) ∙ t })
-    | inr t ↦ (let f = cond-false {A = Result ℕ Unwritten} (hasRoom (slotAt bytes o j) p) (Ok j) (Err NoRoom) t in let z : _≡_ {A = ℕ} 0 1 = cc in absurd (omega arith)) ]
+    elim (cases-bool (hasRoom (slotAt bytes o j) p)) [
+      | inl t ↦ (let f = cond-true {A = Result ℕ Unwritten} (hasRoom (slotAt bytes o j) p) (Ok j) (Err NoRoom) t in
+          let same : j ≡ k = cc in record { place = ap Some (sym same) ∙ e; room = ap (λ i. hasRoom (slotAt bytes o i) p) (sym same) ∙ t })
+      | inr t ↦ (let f = cond-false {A = Result ℕ Unwritten} (hasRoom (slotAt bytes o j) p) (Ok j) (Err NoRoom) t in let z : _≡_ {A = ℕ} 0 1 = cc in absurd (omega arith))
+    ]
 
 -- The drive after it.
 after-there : (bytes p : List ℕ) (o d v k : ℕ) → There bytes p o d v k → afterWrite bytes o d v p ≡ withSlot bytes o k (written o d v p (slotAt bytes o k))
@@ -62,22 +63,24 @@ write-reads bytes p o d v k small answer =
     let long = length-written o d v p (slotAt bytes o k) in
     let four = length-readings bytes o d in
     let lengths : length (readings after o d) ≡ length (set (readings bytes o d) k (holds v p)) =
-      length-readings after o d ∙ sym (length-set (readings bytes o d) k (holds v p) ∙ four) in
+    length-readings after o d ∙ sym (length-set (readings bytes o d) k (holds v p) ∙ four) in
     ap (λ l. readings l o d) (after-there bytes p o d v k h)
     ∙ ext-getD empty (readings after o d) (set (readings bytes o d) k (holds v p)) lengths (λ i less.
-      let under : i < 4 = omega (arith, length-readings after o d) in
-      getD-readings after o d i under ∙ elim (cases-eq i k)
-      [ inl same ↦ ap (λ j. readSlot o d (slotAt after o j)) same ∙ ap (readSlot o d) (slot-stands bytes new o k long) ∙ reads-there bytes p o d v k (omega arith) h
-        ∙ sym (ap (λ j. getD (set (readings bytes o d) k (holds v p)) j empty) same ∙ getD-set-same (readings bytes o d) k (holds v p) empty (omega arith))
+    let under : i < 4 = omega (arith, length-readings after o d) in
+    getD-readings after o d i under ∙ elim (cases-eq i k) [
+      | inl same ↦ ap (λ j. readSlot o d (slotAt after o j)) same ∙ ap (readSlot o d) (slot-stands bytes new o k long) ∙ reads-there bytes p o d v k (omega arith) h
+          ∙ sym (ap (λ j. getD (set (readings bytes o d) k (holds v p)) j empty) same ∙ getD-set-same (readings bytes o d) k (holds v p) empty (omega arith))
       | inr other ↦ ap (readSlot o d) (others-stand bytes new o k o i below under long (λ e. other (sym (e .1)))) ∙ sym (getD-readings bytes o d i under)
-        ∙ sym (getD-set-other (readings bytes o d) k i (holds v p) empty other) ])
+          ∙ sym (getD-set-other (readings bytes o d) k i (holds v p) empty other)
+    ])
 
 reads-cleared : (o d : ℕ) (rule : Rule) (slot : List ℕ) → readSlot o d (clearedIf o d rule slot) ≡ cond (namesSlot rule (readSlot o d slot)) empty (readSlot o d slot)
 reads-cleared o d rule slot =
     let named = namesSlot rule (readSlot o d slot) in
-    elim (cases-bool named)
-    [ inl t ↦ ap (readSlot o d) (cond-true named (cleared o d slot) slot t) ∙ cleared-reads-empty o d slot ∙ sym (cond-true named empty (readSlot o d slot) t)
-    | inr t ↦ ap (readSlot o d) (cond-false named (cleared o d slot) slot t) ∙ sym (cond-false named empty (readSlot o d slot) t) ]
+    elim (cases-bool named) [
+      | inl t ↦ ap (readSlot o d) (cond-true named (cleared o d slot) slot t) ∙ cleared-reads-empty o d slot ∙ sym (cond-true named empty (readSlot o d slot) t)
+      | inr t ↦ ap (readSlot o d) (cond-false named (cleared o d slot) slot t) ∙ sym (cond-false named empty (readSlot o d slot) t)
+    ]
 
 pub taking-reads : TakingReads
 taking-reads bytes o d rule =
@@ -94,10 +97,11 @@ write-others bytes p o d v o′ k′ None e apart h = refl
 write-others bytes p o d v o′ k′ (Some k) e apart h =
     let room = hasRoom (slotAt bytes o k) p in
     let new = written o d v p (slotAt bytes o k) in
-    elim (cases-bool room)
-    [ inl t ↦ ap (λ l. slotAt l o′ k′) (cond-true room (withSlot bytes o k new) bytes t)
-      ∙ others-stand bytes new o k o′ k′ (place-below v k bytes o d e) h (length-written o d v p (slotAt bytes o k)) (λ f. apart (f .0))
-    | inr t ↦ ap (λ l. slotAt l o′ k′) (cond-false room (withSlot bytes o k new) bytes t) ]
+    elim (cases-bool room) [
+      | inl t ↦ ap (λ l. slotAt l o′ k′) (cond-true room (withSlot bytes o k new) bytes t)
+          ∙ others-stand bytes new o k o′ k′ (place-below v k bytes o d e) h (length-written o d v p (slotAt bytes o k)) (λ f. apart (f .0))
+      | inr t ↦ ap (λ l. slotAt l o′ k′) (cond-false room (withSlot bytes o k new) bytes t)
+    ]
 
 pub other-objects : OtherObjects
 other-objects bytes p o d v o′ k′ rule apart h =

@@ -23,11 +23,13 @@ length-stands bytes slot o k long = put-long bytes slot (slotFrom o k) slotSize 
 pub others-stand : OthersStand
 unfolding slotAt withSlot
 others-stand bytes slot o k o′ k′ h h′ long apart =
-    elim (cases-order (o * 4 + k) (o′ * 4 + k′))
-    [ inl one ↦ (let eo : o ≡ o′ = omega arith in let ek : k ≡ k′ = omega arith in absurd (apart (eo, ek)))
-    | inr two ↦ elim two
-      [ inl below ↦ ap (take slotSize) (put-above bytes slot (slotFrom o k) (slotFrom o′ k′) slotSize long (omega arith))
-      | inr above ↦ put-below bytes slot (slotFrom o k) (slotFrom o′ k′) slotSize long (omega arith) ] ]
+    elim (cases-order (o * 4 + k) (o′ * 4 + k′)) [
+      | inl one ↦ (let eo : o ≡ o′ = omega arith in let ek : k ≡ k′ = omega arith in absurd (apart (eo, ek)))
+      | inr two ↦ elim two [
+        | inl below ↦ ap (take slotSize) (put-above bytes slot (slotFrom o k) (slotFrom o′ k′) slotSize long (omega arith))
+        | inr above ↦ put-below bytes slot (slotFrom o k) (slotFrom o′ k′) slotSize long (omega arith)
+      ]
+    ]
 
 pub laws : Apart
 laws = record { stands = slot-stands; others = others-stand; long = length-stands }

@@ -37,9 +37,10 @@ pub taken-apart : (bytes : List ℕ) (o d i o′ k : ℕ) (rule : Rule) → i < 
 taken-apart bytes o d i o′ k rule h h′ apart =
     let named = namesSlot rule (readSlot o d (slotAt bytes o i)) in
     let new = withSlot bytes o i (cleared o d (slotAt bytes o i)) in
-    elim (cases-bool named)
-    [ inl t ↦ ap (λ l. slotAt l o′ k) (cond-true named new bytes t) ∙ others-stand bytes (cleared o d (slotAt bytes o i)) o i o′ k h h′ (length-cleared o d (slotAt bytes o i)) apart
-    | inr t ↦ ap (λ l. slotAt l o′ k) (cond-false named new bytes t) ]
+    elim (cases-bool named) [
+      | inl t ↦ ap (λ l. slotAt l o′ k) (cond-true named new bytes t) ∙ others-stand bytes (cleared o d (slotAt bytes o i)) o i o′ k h h′ (length-cleared o d (slotAt bytes o i)) apart
+      | inr t ↦ ap (λ l. slotAt l o′ k) (cond-false named new bytes t)
+    ]
 
 pub below-apart : (bytes : List ℕ) (o d i k : ℕ) (rule : Rule) → i ≤ k → k < 4 → slotAt (takenBelow i bytes o d rule) o k ≡ slotAt bytes o k
 unfolding takenBelow
@@ -76,18 +77,20 @@ taken-here bytes o d i rule =
     let slot = slotAt bytes o i in
     let named = namesSlot rule (readSlot o d slot) in
     let new = withSlot bytes o i (cleared o d slot) in
-    elim (cases-bool named)
-    [ inl t ↦ ap (λ l. slotAt l o i) (cond-true named new bytes t) ∙ slot-stands bytes (cleared o d slot) o i (length-cleared o d slot) ∙ sym (cond-true named (cleared o d slot) slot t)
-    | inr t ↦ ap (λ l. slotAt l o i) (cond-false named new bytes t) ∙ sym (cond-false named (cleared o d slot) slot t) ]
+    elim (cases-bool named) [
+      | inl t ↦ ap (λ l. slotAt l o i) (cond-true named new bytes t) ∙ slot-stands bytes (cleared o d slot) o i (length-cleared o d slot) ∙ sym (cond-true named (cleared o d slot) slot t)
+      | inr t ↦ ap (λ l. slotAt l o i) (cond-false named new bytes t) ∙ sym (cond-false named (cleared o d slot) slot t)
+    ]
 
 pub below-done : (n : ℕ) (bytes : List ℕ) (o d i : ℕ) (rule : Rule) → i < n → n ≤ 4 → slotAt (takenBelow n bytes o d rule) o i ≡ clearedIf o d rule (slotAt bytes o i)
 unfolding takenBelow
 below-done zero bytes o d i rule h h′ = absurd (omega arith)
 below-done (suc n) bytes o d i rule h h′ =
-    elim (cases-eq n i)
-    [ inl same ↦ ap (slotAt (takenBelow (suc n) bytes o d rule) o) (sym same) ∙ taken-here (takenBelow n bytes o d rule) o d n rule
-      ∙ ap (clearedIf o d rule) (below-apart bytes o d n n rule (omega arith) (omega arith) ∙ ap (slotAt bytes o) same)
-    | inr other ↦ taken-apart (takenBelow n bytes o d rule) o d n o i rule (omega arith) (omega arith) (λ e. other (e .1)) ∙ below-done n bytes o d i rule (omega arith) (omega arith) ]
+    elim (cases-eq n i) [
+      | inl same ↦ ap (slotAt (takenBelow (suc n) bytes o d rule) o) (sym same) ∙ taken-here (takenBelow n bytes o d rule) o d n rule
+          ∙ ap (clearedIf o d rule) (below-apart bytes o d n n rule (omega arith) (omega arith) ∙ ap (slotAt bytes o) same)
+      | inr other ↦ taken-apart (takenBelow n bytes o d rule) o d n o i rule (omega arith) (omega arith) (λ e. other (e .1)) ∙ below-done n bytes o d i rule (omega arith) (omega arith)
+    ]
 
 pub below-others : (n : ℕ) (bytes : List ℕ) (o d o′ k : ℕ) (rule : Rule) → n ≤ 4 → k < 4 → (o ≡ o′ → ⊥) → slotAt (takenBelow n bytes o d rule) o′ k ≡ slotAt bytes o′ k
 unfolding takenBelow

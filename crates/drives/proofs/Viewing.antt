@@ -58,9 +58,10 @@ index-counted v e (s ∷ ss) new =
     let b = same (Some v) (versionOf s) in
     let counted = map versionOf (firstsAfter versionOf empty (e ++ (versionOf s ∷ [])) ss) in
     ap (λ c. cond c (Some 0) (mapped (λ i. i + 1) (indexOf (Some v) counted))) (head-by v e new (seen (versionOf s) e) s refl)
-    ∙ elim (cases-bool b)
-    [ inl t ↦ cond-true b (Some 0) (mapped (λ i. i + 1) (indexOf (Some v) counted)) t ∙ sym (cond-true b (Some 0) (mapped (λ i. i + 1) (indexOf (Some v) (map versionOf ss))) t)
-    | inr f ↦ ap (λ r. cond b (Some 0) (mapped (λ i. i + 1) r)) (index-counted v (e ++ (versionOf s ∷ [])) ss (unseen-push (Some v) (versionOf s) e new f)) ]
+    ∙ elim (cases-bool b) [
+      | inl t ↦ cond-true b (Some 0) (mapped (λ i. i + 1) (indexOf (Some v) counted)) t ∙ sym (cond-true b (Some 0) (mapped (λ i. i + 1) (indexOf (Some v) (map versionOf ss))) t)
+      | inr f ↦ ap (λ r. cond b (Some 0) (mapped (λ i. i + 1) r)) (index-counted v (e ++ (versionOf s ∷ [])) ss (unseen-push (Some v) (versionOf s) e new f))
+    ]
 
 -- A search passes a slot that hasn't the version, and ends at one that has.
 find-skip : (v : ℕ) (s : Slot) (ss : List Slot) → same (Some v) (versionOf s) ≡ false → find v (s ∷ ss) ≡ find v ss
@@ -88,25 +89,29 @@ mapped-zero (Some j) e = let f : j + 1 ≡ 0 = cc in absurd (omega arith)
 index-at : (x : Option ℕ) (ys : List (Option ℕ)) (k : ℕ) → indexOf x ys ≡ Some k → (k < length ys) × (same x (getD ys k None) ≡ true)
 index-at x [] k e = none-some k e
 index-at x (y ∷ ys) zero e =
-    elim (cases-bool (same x y))
-    [ inl t ↦ (omega arith, t)
-    | inr f ↦ mapped-zero (indexOf x ys) (sym (cond-false (same x y) (Some 0) (mapped (λ i. i + 1) (indexOf x ys)) f) ∙ e) ]
+    elim (cases-bool (same x y)) [
+      | inl t ↦ (omega arith, t)
+      | inr f ↦ mapped-zero (indexOf x ys) (sym (cond-false (same x y) (Some 0) (mapped (λ i. i + 1) (indexOf x ys)) f) ∙ e)
+    ]
 index-at x (y ∷ ys) (suc k) e =
-    elim (cases-bool (same x y))
-    [ inl t ↦ (let g = sym (cond-true (same x y) (Some 0) (mapped (λ i. i + 1) (indexOf x ys)) t) ∙ e in let z : 0 ≡ suc k = cc in absurd (omega arith))
-    | inr f ↦ (let g = index-at x ys k (unmapped k (indexOf x ys) (sym (cond-false (same x y) (Some 0) (mapped (λ i. i + 1) (indexOf x ys)) f) ∙ e)) in
-      let h = g .0 in (omega arith, g .1)) ]
+    elim (cases-bool (same x y)) [
+      | inl t ↦ (let g = sym (cond-true (same x y) (Some 0) (mapped (λ i. i + 1) (indexOf x ys)) t) ∙ e in let z : 0 ≡ suc k = cc in absurd (omega arith))
+      | inr f ↦ (let g = index-at x ys k (unmapped k (indexOf x ys) (sym (cond-false (same x y) (Some 0) (mapped (λ i. i + 1) (indexOf x ys)) f) ∙ e)) in
+          let h = g .0 in (omega arith, g .1))
+    ]
 
 index-none : (x : Option ℕ) (ys : List (Option ℕ)) (k : ℕ) → indexOf x ys ≡ None → k < length ys → same x (getD ys k None) ≡ false
 index-none x [] k e h = absurd (omega arith)
 index-none x (y ∷ ys) zero e h =
-    elim (cases-bool (same x y))
-    [ inl t ↦ none-some 0 (sym e ∙ cond-true (same x y) (Some 0) (mapped (λ i. i + 1) (indexOf x ys)) t)
-    | inr f ↦ f ]
+    elim (cases-bool (same x y)) [
+      | inl t ↦ none-some 0 (sym e ∙ cond-true (same x y) (Some 0) (mapped (λ i. i + 1) (indexOf x ys)) t)
+      | inr f ↦ f
+    ]
 index-none x (y ∷ ys) (suc k) e h =
-    elim (cases-bool (same x y))
-    [ inl t ↦ none-some 0 (sym e ∙ cond-true (same x y) (Some 0) (mapped (λ i. i + 1) (indexOf x ys)) t)
-    | inr f ↦ index-none x ys k (unmapped-none (indexOf x ys) (sym (cond-false (same x y) (Some 0) (mapped (λ i. i + 1) (indexOf x ys)) f) ∙ e)) (omega arith) ]
+    elim (cases-bool (same x y)) [
+      | inl t ↦ none-some 0 (sym e ∙ cond-true (same x y) (Some 0) (mapped (λ i. i + 1) (indexOf x ys)) t)
+      | inr f ↦ index-none x ys k (unmapped-none (indexOf x ys) (sym (cond-false (same x y) (Some 0) (mapped (λ i. i + 1) (indexOf x ys)) f) ∙ e)) (omega arith)
+    ]
 
 same-means : (v : ℕ) (y : Option ℕ) → same (Some v) y ≡ true → y ≡ Some v
 same-means v None h = false-true h
@@ -135,21 +140,23 @@ find-set v zero p (s ∷ ss) h at = cond-true (eqb v v) (Some p) (find v ss) (eq
 find-set v (suc k) p (s ∷ ss) h at =
     let b = same (Some v) (versionOf s) in
     let r = indexOf (Some v) (map versionOf ss) in
-    elim (cases-bool b)
-    [ inl t ↦ (let g = cond-true b (Some 0) (mapped (λ i. i + 1) r) t in
-      elim at [ inl a ↦ (let c = sym g ∙ a in let z : 0 ≡ suc k = cc in absurd (omega arith)) | inr n ↦ none-some 0 (sym n ∙ g) ])
-    | inr f ↦ (let g = cond-false b (Some 0) (mapped (λ i. i + 1) r) f in
-      find-skip v s (set ss k (holds v p)) f
-      ∙ find-set v k p ss (omega arith) (elim at [ inl a ↦ inl (unmapped k r (sym g ∙ a)) | inr n ↦ inr (unmapped-none r (sym g ∙ n)) ])) ]
+    elim (cases-bool b) [
+      | inl t ↦ (let g = cond-true b (Some 0) (mapped (λ i. i + 1) r) t in
+          elim at [ inl a ↦ (let c = sym g ∙ a in let z : 0 ≡ suc k = cc in absurd (omega arith)) | inr n ↦ none-some 0 (sym n ∙ g) ])
+      | inr f ↦ (let g = cond-false b (Some 0) (mapped (λ i. i + 1) r) f in
+          find-skip v s (set ss k (holds v p)) f
+          ∙ find-set v k p ss (omega arith) (elim at [ inl a ↦ inl (unmapped k r (sym g ∙ a)) | inr n ↦ inr (unmapped-none r (sym g ∙ n)) ]))
+    ]
 
 pub finds-written : FindsWritten
 finds-written v k p ss e =
     let versions = map versionOf (distinct ss) in
     let counted = index-counted v [] ss refl in
     let long = length-versions ss in
-    elim (either k (indexOf (Some v) versions) (indexOf None versions) e)
-    [ inl a ↦ (let h = index-at (Some v) versions k a .0 in find-set v k p ss (omega arith) (inl (sym counted ∙ a)))
-    | inr n ↦ (let h = index-at None versions k (n .1) .0 in find-set v k p ss (omega arith) (inr (sym counted ∙ n .0))) ]
+    elim (either k (indexOf (Some v) versions) (indexOf None versions) e) [
+      | inl a ↦ (let h = index-at (Some v) versions k a .0 in find-set v k p ss (omega arith) (inl (sym counted ∙ a)))
+      | inr n ↦ (let h = index-at None versions k (n .1) .0 in find-set v k p ss (omega arith) (inr (sym counted ∙ n .0)))
+    ]
 
 -- What is written over a slot that counts as nothing, or has the version itself, hides no other version.
 keeps : (v w k : ℕ) (p : List ℕ) (e : List (Option ℕ)) (ss : List Slot) → (w ≡ v → ⊥) → seen (Some w) e ≡ false → k < length ss →
@@ -158,24 +165,26 @@ keeps v w k p e [] other new h free = absurd (omega arith)
 keeps v w zero p e (s ∷ ss) other new h free =
     find-skip w (holds v p) ss (ne-eqb w v other) ∙ sym (find-skip w s ss (sym (head-by w e new (seen (versionOf s) e) s refl) ∙ free))
 keeps v w (suc k) p e (s ∷ ss) other new h free =
-    elim (cases-bool (same (Some w) (versionOf s)))
-    [ inl t ↦ find-hit w s (set ss k (holds v p)) ss t
-    | inr f ↦ find-skip w s (set ss k (holds v p)) f
-      ∙ keeps v w k p (e ++ (versionOf s ∷ [])) ss other (unseen-push (Some w) (versionOf s) e new f) (omega arith) free
-      ∙ sym (find-skip w s ss f) ]
+    elim (cases-bool (same (Some w) (versionOf s))) [
+      | inl t ↦ find-hit w s (set ss k (holds v p)) ss t
+      | inr f ↦ find-skip w s (set ss k (holds v p)) f
+          ∙ keeps v w k p (e ++ (versionOf s ∷ [])) ss other (unseen-push (Some w) (versionOf s) e new f) (omega arith) free
+          ∙ sym (find-skip w s ss f)
+    ]
 
 pub keeps-others : KeepsOthers
 keeps-others v w k p ss e other =
     let versions = map versionOf (distinct ss) in
     let long = length-versions ss in
     let count = length-firstsAfter versionOf empty [] ss in
-    elim (either k (indexOf (Some v) versions) (indexOf None versions) e)
-    [ inl a ↦ (let at = index-at (Some v) versions k a in let h = at .0 in
-      let there : versionOf (getD (distinct ss) k empty) ≡ Some v = sym (getD-map versionOf (distinct ss) k empty None (omega arith)) ∙ same-means v (getD versions k None) (at .1) in
-      keeps v w k p [] ss other refl (omega arith) (ap (same (Some w)) there ∙ ne-eqb w v other))
-    | inr n ↦ (let at = index-at None versions k (n .1) in let h = at .0 in
-      let there : versionOf (getD (distinct ss) k empty) ≡ None = sym (getD-map versionOf (distinct ss) k empty None (omega arith)) ∙ none-means (getD versions k None) (at .1) in
-      keeps v w k p [] ss other refl (omega arith) (ap (same (Some w)) there)) ]
+    elim (either k (indexOf (Some v) versions) (indexOf None versions) e) [
+      | inl a ↦ (let at = index-at (Some v) versions k a in let h = at .0 in
+          let there : versionOf (getD (distinct ss) k empty) ≡ Some v = sym (getD-map versionOf (distinct ss) k empty None (omega arith)) ∙ same-means v (getD versions k None) (at .1) in
+          keeps v w k p [] ss other refl (omega arith) (ap (same (Some w)) there ∙ ne-eqb w v other))
+      | inr n ↦ (let at = index-at None versions k (n .1) in let h = at .0 in
+          let there : versionOf (getD (distinct ss) k empty) ≡ None = sym (getD-map versionOf (distinct ss) k empty None (omega arith)) ∙ none-means (getD versions k None) (at .1) in
+          keeps v w k p [] ss other refl (omega arith) (ap (same (Some w)) there))
+    ]
 
 other-version : (v : ℕ) (s t : Slot) → t ≡ s → same None (versionOf s) ≡ false → same (Some v) (versionOf s) ≡ false → (w : ℕ) × (q : List ℕ) × (t ≡ holds w q) × (w ≡ v → ⊥)
 other-version v empty t e n h = false-true (sym n)

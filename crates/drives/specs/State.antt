@@ -7,9 +7,12 @@ use lib.Dec.{leb, ltb}
 use lib.ListN.{getD, set, take}
 use Rattle.std.specs.shelf.Lists.{countBy}
 
--- There may be 2 to 32 drives.
+-- There may be 2 to 32 drives. The bound stands here and in the constant `MOST` of the code, which `Drives::new` ties to it.
+abbrev pub mostDrives : ℕ
+mostDrives = 32
+
 abbrev pub mayCount : ℕ → Bool
-mayCount n = leb 2 n && leb n 32
+mayCount n = leb 2 n && leb n mostDrives
 
 -- Drive `d` is one of `n`, and in.
 abbrev pub inAt : (n : ℕ) → List Bool → ℕ → Bool

@@ -4,7 +4,7 @@ ghost use denote.Ref.{now};
 ghost use Prim.Native.Nat.{_<_};
 ghost use Rattle.std.specs.Options.{mapped};
 ghost use Rattle.slots.specs.Slot.{readSlot, hasRoom, written};
-ghost use Rattle.drives.specs.Place.{slotAt, withSlot, readings};
+ghost use Rattle.drives.specs.Place.{places, slotAt, withSlot, readings};
 ghost use Rattle.drives.specs.View.{find, placeFor};
 ghost use Rattle.drives.specs.Rule.{namesSlot};
 ghost use Rattle.drives.specs.Steps.{writeAnswer, afterWrite, takenAt, afterTaking, howManyNamed};
@@ -47,8 +47,15 @@ pub fn place_for(drive: &[u8], object: u8, number: u8, version: u64) -> Option<u
 }
 
 // Writes a piece of a version at a place, and leaves every other slot. False, and nothing changes, where there is no room for it.
-fn write_at(drive: &mut [u8], object: u8, number: u8, place: usize, version: u64, piece: &[u8]) -> bool
-    requires { ⌜ place < 4 ⌝ }
+fn write_at(
+    drive: &mut [u8],
+    object: u8,
+    number: u8,
+    place: usize,
+    version: u64,
+    piece: &[u8],
+) -> bool
+    requires { ⌜ place < places ⌝ }
     ensures answer { λ r. ⌜ r ≡ hasRoom (slotAt (now (drive .entry)) object place) (now (piece .entry)) ⌝ }
     ensures after { λ _. ⌜ now (drive .exit) ≡ withSlot (now (drive .entry)) object place (written object number version (now (piece .entry)) (slotAt (now (drive .entry)) object place)) ⌝ }
 {
@@ -57,7 +64,13 @@ fn write_at(drive: &mut [u8], object: u8, number: u8, place: usize, version: u64
 }
 
 // Writes a piece of a version of an object to the place for it, and says which that is. Refused, nothing changes.
-pub fn write_piece(drive: &mut [u8], object: u8, number: u8, version: u64, piece: &[u8]) -> Result<usize, Unwritten>
+pub fn write_piece(
+    drive: &mut [u8],
+    object: u8,
+    number: u8,
+    version: u64,
+    piece: &[u8],
+) -> Result<usize, Unwritten>
     ensures answer { λ r. ⌜ r ≡ writeAnswer (now (drive .entry)) object number version (now (piece .entry)) ⌝ }
     ensures after { λ _. ⌜ now (drive .exit) ≡ afterWrite (now (drive .entry)) object number version (now (piece .entry)) ⌝ }
 {
@@ -73,7 +86,7 @@ pub fn write_piece(drive: &mut [u8], object: u8, number: u8, version: u64, piece
 
 // Whether a rule names what the slot at a place reads as.
 fn is_named(drive: &[u8], object: u8, number: u8, place: usize, rule: Rule) -> bool
-    requires { ⌜ place < 4 ⌝ }
+    requires { ⌜ place < places ⌝ }
     ensures { λ r. ⌜ r ≡ namesSlot rule (readSlot object number (slotAt (now (drive .entry)) object place)) ⌝ }
 {
     match read(slot_of(drive, object, place), object, number) {
@@ -84,7 +97,7 @@ fn is_named(drive: &[u8], object: u8, number: u8, place: usize, rule: Rule) -> b
 
 // Takes away what a rule names at a place, and says whether it does.
 fn take_at(drive: &mut [u8], object: u8, number: u8, place: usize, rule: Rule) -> bool
-    requires { ⌜ place < 4 ⌝ }
+    requires { ⌜ place < places ⌝ }
     ensures answer { λ r. ⌜ r ≡ namesSlot rule (readSlot object number (slotAt (now (drive .entry)) object place)) ⌝ }
     ensures after { λ _. ⌜ now (drive .exit) ≡ takenAt (now (drive .entry)) object number place rule ⌝ }
 {

@@ -5,7 +5,7 @@ ghost use Prim.Native.Nat.{ℕ, _≤_};
 ghost use lib.Dec.{ltb};
 ghost use lib.ListN.{length, getD, set, take, replicate};
 ghost use Rattle.std.specs.Options.{Cases as BySome};
-ghost use Rattle.drives.specs.State.{mayCount, inAt, setAt, howMany};
+ghost use Rattle.drives.specs.State.{mostDrives, mayCount, inAt, setAt, howMany};
 
 // The most drives that there may be.
 const MOST: usize = 32;
@@ -14,7 +14,7 @@ const MOST: usize = 32;
 #[derive(Clone, Copy)]
 pub struct Drives {
     count: u8,
-    present: [bool; 32],
+    present: [bool; MOST],
     ghost few: { count ≤ 32 },
 }
 
@@ -51,7 +51,11 @@ fn set_flag(flags: &mut [bool], at: usize, flag: bool)
 fn how_many_below(flags: &[bool], end: usize) -> usize
     ensures { λ r. ⌜ r ≡ howMany (take end (now (flags .entry))) ⌝ }
 {
-    if end < flags.len() { how_many(&flags[0..end]) } else { how_many(flags) }
+    if end < flags.len() {
+        how_many(&flags[0..end])
+    } else {
+        how_many(flags)
+    }
 }
 
 // The first so many flags.
@@ -64,12 +68,15 @@ fn flags_below(flags: &[bool], end: usize) -> &[bool]
 impl Drives {
     // So many drives, all of them in; none where there may not be so many.
     pub fn new(count: u8) -> Option<Drives>
-        ensures { λ r. ⌜ BySome r (mayCount count ≡ false) (λ s. (mayCount count ≡ true) × (s .count ≡ count) × (s .present ≡ replicate 32 true)) ⌝ }
+        ensures { λ r. ⌜ BySome r (mayCount count ≡ false) (λ s. (mayCount count ≡ true) × (s .count ≡ count) × (s .present ≡ replicate mostDrives true)) ⌝ }
     {
         if count < 2 || count as usize > MOST {
             return None;
         }
-        Some(Drives { count, present: [true; MOST] })
+        Some(Drives {
+            count,
+            present: [true; MOST],
+        })
     }
 
     // How many drives there are.

@@ -5,7 +5,7 @@ ghost use Prim.Native.Nat.{ℕ, _<_};
 ghost use lib.ListN.{length, getD};
 ghost use Rattle.std.specs.declared.option.Option.the-variants.{None};
 ghost use Rattle.slots.specs.Slot.{readSlot};
-ghost use Rattle.drives.specs.Place.{slotAt, readings};
+ghost use Rattle.drives.specs.Place.{places, slotAt, readings};
 ghost use Rattle.drives.specs.View.{same, indexOf, firsts, placeIn, versionOf, distinct};
 use crate::layout::PLACES;
 use crate::layout::slot_of;
@@ -46,7 +46,7 @@ pub fn place_in(version: u64, versions: &[Option<u64>]) -> Option<usize>
 
 // The version that the slot at a place has, whether or not it counts.
 fn version_at(drive: &[u8], object: u8, number: u8, place: usize) -> Option<u64>
-    requires { ⌜ place < 4 ⌝ }
+    requires { ⌜ place < places ⌝ }
     ensures { λ r. ⌜ r ≡ versionOf (readSlot object number (slotAt (now (drive .entry)) object place)) ⌝ }
 {
     match read(slot_of(drive, object, place), object, number) {
@@ -56,7 +56,7 @@ fn version_at(drive: &[u8], object: u8, number: u8, place: usize) -> Option<u64>
 }
 
 // The versions at all places, whether or not they count.
-fn all_versions(drive: &[u8], object: u8, number: u8) -> [Option<u64>; 4]
+fn all_versions(drive: &[u8], object: u8, number: u8) -> [Option<u64>; PLACES]
     ensures { λ r. ⌜ r ≡ map versionOf (readings (now (drive .entry)) object number) ⌝ }
 {
     let mut found = [None; PLACES];
@@ -78,7 +78,7 @@ fn first_at(all: &[Option<u64>], place: usize) -> Option<u64>
 }
 
 // The versions that count of an object on a drive, place by place: what an earlier place has counts once.
-pub fn versions(drive: &[u8], object: u8, number: u8) -> [Option<u64>; 4]
+pub fn versions(drive: &[u8], object: u8, number: u8) -> [Option<u64>; PLACES]
     ensures { λ r. ⌜ r ≡ map versionOf (distinct (readings (now (drive .entry)) object number)) ⌝ }
 {
     let all = all_versions(drive, object, number);

@@ -17,6 +17,7 @@ number Uneven = 1
 number SamePoint = 2
 number NoMemory = 3
 
+-- Does a number stand in a list.
 unfoldable pub isIn : ℕ → List ℕ → Bool
 isIn x [] = false
 isIn x (y ∷ ys) = eqb y x || isIn x ys

@@ -77,7 +77,7 @@ pub record RowAdded (w i factor : ℕ) (source m m′ : List ℕ) : Type 0 where
 -- What a search for a pivot of column q finds: the first row from row q on whose entry isn't 0, or that there is none.
 abbrev pub Found : (k w q : ℕ) (m : List ℕ) → Option ℕ → Type 0
 Found k w q m None = (i : ℕ) → q ≤ i → i < k → cell w m i q ≡ 0
-Found k w q m (Some p) = (q ≤ p) × (p < k) × (1 ≤ cell w m p q)
+Found k w q m (Some p) = (q ≤ p) × (p < k) × (1 ≤ cell w m p q) × ((i : ℕ) → q ≤ i → i < p → cell w m i q ≡ 0)
 
 -- What row q gets row p times, so that its entry in column q becomes 1.
 abbrev pub leading : (w q p : ℕ) (m : List ℕ) → ℕ

@@ -19,7 +19,7 @@ use std::alloc::AllocError;
 use std::alloc::Global;
 
 // Why no polynomials came out.
-#[derive(Clone, Copy, Debug, PartialEq, Eq)]
+#[derive(Clone, Copy)]
 pub enum Unsolved {
     NoPoints,
     // The values are not the same number at each point.

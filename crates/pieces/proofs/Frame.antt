@@ -33,15 +33,16 @@ pub filled-more : (head bytes : List ℕ) (at used : ℕ) → used ≤ at → (h
 filled-more head bytes at used h =
     append-assoc head (bytes ++ replicate (at - used) 0) (0 ∷ [])
     ∙ ap (λ t. head ++ t) (append-assoc bytes (replicate (at - used) 0) (0 ∷ [])
-      ∙ ap (λ t. bytes ++ t) (replicate-more (at - used) 0 ∙ ap (λ k. replicate k 0) (omega arith)))
+    ∙ ap (λ t. bytes ++ t) (replicate-more (at - used) 0 ∙ ap (λ k. replicate k 0) (omega arith)))
 
 -- Zeros up to the end of the rows make the frame whole.
-pub filled : (need : ℕ) (bytes : List ℕ) (at : ℕ) → 0 < need → (4 + length bytes + (need - 1)) / need * need ≤ at → (4 + length bytes ≤ (4 + length bytes + (need - 1)) / need * need → at ≤ (4 + length bytes + (need - 1)) / need * need)
+pub filled : (need : ℕ) (bytes : List ℕ) (at size : ℕ) → 0 < need → size ≡ rowsFor need (length bytes) * need → size ≤ at → (4 + length bytes ≤ size → at ≤ size)
     → lengthBytes (length bytes) ++ (bytes ++ replicate (at - (4 + length bytes)) 0) ≡ framed need bytes
-unfolding framed rowsFor
-filled need bytes at h low high =
+unfolding framed
+filled need bytes at size h is low high =
     let e = rows-hold need (length bytes) h .0 in
-    ap (λ k. lengthBytes (length bytes) ++ (bytes ++ replicate (k - (4 + length bytes)) 0)) (omega (arith, high e))
+    let inside : 4 + length bytes ≤ size = omega arith in
+    ap (λ k. lengthBytes (length bytes) ++ (bytes ++ replicate (k - (4 + length bytes)) 0)) (omega (arith, high inside))
 
 -- The number of rows, as the code works it out from the length of the frame.
 pub rows-of : (need : ℕ) (bytes flat : List ℕ) (n rows : ℕ) → 0 < need → flat ≡ framed need bytes → n ≡ length flat → rows ≡ n / need → rows ≡ rowsFor need (length bytes)
@@ -90,6 +91,11 @@ laid : (need n : ℕ) (bytes : List ℕ) → length bytes ≡ n → lengthBytes 
 unfolding framed
 laid need n bytes e = ap (λ k. lengthBytes k ++ (bytes ++ replicate (rowsFor need k * need - (4 + k)) 0)) (sym e)
 
+-- What is zeros from the n-th byte on.
+rest-laid : (n k : ℕ) (rest : List ℕ) → All IsZero (drop n rest) → length (drop n rest) ≡ k → rest ≡ take n rest ++ replicate k 0
+rest-laid n k rest zeros count =
+    sym (take-append-drop n rest) ∙ ap (λ t. take n rest ++ t) (zeros-are (drop n rest) zeros ∙ ap (λ j. replicate j 0) count)
+
 -- Four bytes are those of the number that they say.
 four-bytes : (a b c d : ℕ) → IsByte a → IsByte b → IsByte c → IsByte d → lengthBytes (((a * 256 + b) * 256 + c) * 256 + d) ≡ a ∷ b ∷ c ∷ d ∷ []
 four-bytes a b c d ha hb hc hd =
@@ -114,8 +120,7 @@ framed-again need (a ∷ b ∷ c ∷ d ∷ rest) h bytes long zeros =
     let n = lengthIn flat in
     let within : 4 + n ≤ length flat = holds-length need flat h long in
     let within-rest : n ≤ length rest = omega arith in
-    let z : drop n rest ≡ replicate (length (drop n rest)) 0 = zeros-are (drop n rest) (subst (All IsZero) (sym (drop-drop n 4 flat)) zeros) in
     let count : length (drop n rest) ≡ rowsFor need n * need - (4 + n) = simp length-drop (omega (arith, long .1)) in
     ap₂ (λ s t. s ++ t) (sym (four-bytes a b c d (bytes .0) (bytes .1 .0) (bytes .1 .1 .0) (bytes .1 .1 .1 .0)))
-      (sym (take-append-drop n rest) ∙ ap (λ t. take n rest ++ t) (z ∙ ap (λ k. replicate k 0) count))
+    (rest-laid n (rowsFor need n * need - (4 + n)) rest (subst (All IsZero) (sym (drop-drop n 4 flat)) zeros) count)
     ∙ laid need n (take n rest) (length-take-le n rest within-rest)

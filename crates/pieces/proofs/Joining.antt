@@ -78,12 +78,12 @@ module _ (w : ℕ) where
 
   -- Where each byte of each piece is the value of its row, the pieces are the values of the rows.
   values-all : (need : ℕ) (flat : List ℕ) (ps : List Piece) → All (λ p. length p ≡ w) (parts ps)
-    → ((i r : ℕ) → i < length ps → r < w → getD (getD (parts ps) i []) r 0 ≡ value (row need flat r) (getD (points (drives ps)) i 0))
-    → parts ps ≡ map (λ d. values need w (d + 1) flat) (drives ps)
+      → ((i r : ℕ) → i < length ps → r < w → getD (getD (parts ps) i []) r 0 ≡ value (row need flat r) (getD (points (drives ps)) i 0))
+      → parts ps ≡ map (λ d. values need w (d + 1) flat) (drives ps)
   values-all need flat [] h at = refl
   values-all need flat (p ∷ ps) h at =
       ap₂ (λ q qs. q ∷ qs) (values-are need w (p .drive + 1) flat (vec-items (p .bytes)) (h .0) (λ r hr. at 0 r (omega arith) hr))
-        (values-all need flat ps (h .1) (λ i r hi hr. at (suc i) r (omega arith) hr))
+      (values-all need flat ps (h .1) (λ i r hi hr. at (suc i) r (omega arith) hr))
 
 -- A point stands twice only where that is the reason.
 unrepeated : (pts vals : List ℕ) → reason pts vals ≡ 3 → repeated pts ≡ false
@@ -104,15 +104,17 @@ rows-found need ps pts vals flat one pe ve solved =
     let size : length vals ≡ need * w = ap length ve ∙ length-whole w ps (one .1) ∙ ap (λ k. k * w) (one .0 .0 .1) in
     let wide : widthOf pts vals ≡ w = ap₂ (λ a b. a / b) size count ∙ mul-div-cancel-left w h in
     let at : (i r : ℕ) → i < length ps → r < w → getD (getD (parts ps) i []) r 0 ≡ value (row need flat r) (getD (points (drives ps)) i 0) = λ i r hi hr.
-        sym (getD-whole w ps (one .1) i r hi hr)
-        ∙ ap₂ (λ vs k. getD vs (i * k + r) 0) (sym ve) (sym wide)
-        ∙ sym (solved .interpolates .at r i (subst (λ k. r < k) (sym wide) hr) (subst (λ k. i < k) (sym count) (subst (λ k. i < k) (one .0 .0 .1) hi)))
-        ∙ ap₂ (λ k xs. value (take k (drop (r * k) flat)) (getD xs i 0)) count pts-are in
-    (distinct-down (drives ps) (subst Distinct pts-are (distinct-from pts (unrepeated pts vals (solved .allowed)))),
-     record {
-       bytes = solved .interpolates .bytes;
-       long = solved .interpolates .long ∙ size ∙ mul-comm need w;
-       same = values-all w need flat ps (one .1) at })
+    sym (getD-whole w ps (one .1) i r hi hr)
+    ∙ ap₂ (λ vs k. getD vs (i * k + r) 0) (sym ve) (sym wide)
+    ∙ sym (solved .interpolates .at r i (subst (λ k. r < k) (sym wide) hr) (subst (λ k. i < k) (sym count) (subst (λ k. i < k) (one .0 .0 .1) hi)))
+    ∙ ap₂ (λ k xs. value (take k (drop (r * k) flat)) (getD xs i 0)) count pts-are in (
+      distinct-down (drives ps) (subst Distinct pts-are (distinct-from pts (unrepeated pts vals (solved .allowed)))),
+      record {
+        bytes = solved .interpolates .bytes;
+        long = solved .interpolates .long ∙ size ∙ mul-comm need w;
+        same = values-all w need flat ps (one .1) at;
+      },
+    )
 
 -- Nothing but a point that stands twice can be the reason of a refusal.
 reason-is : (need : ℕ) (ps : List Piece) (pts vals : List ℕ) → OneLength need ps → pts ≡ map (λ p. p .drive + 1) ps → vals ≡ whole ps → reason pts vals ≡ cond (repeated pts) 2 3

@@ -42,7 +42,8 @@ rows-behind need ps object w =
     record {
       bytes = framed-bytes need object (w .bytes);
       long = length-framed need object (w .sound .0 .0 .0 .0 .0) ∙ ap (λ k. k * need) (sym e);
-      same = w .pieces-are ∙ ap (λ k. map (λ d. values need k (d + 1) (framed need object)) (drives ps)) (sym e) }
+      same = w .pieces-are ∙ ap (λ k. map (λ d. values need k (d + 1) (framed need object)) (drives ps)) (sym e);
+    }
 
 -- Where two functions have the same values over the drives, they have at each of their points.
 same-at : (ds : List ℕ) (f g : ℕ → List ℕ) → map (λ d. f (d + 1)) ds ≡ map (λ d. g (d + 1)) ds → (x : ℕ) → List·Memᴰ x (points ds) → f x ≡ g x
@@ -52,6 +53,7 @@ same-at (d ∷ ds) f g e x m =
   where
     heads : {a b : List ℕ} {l k : List (List ℕ)} → a ∷ l ≡ b ∷ k → a ≡ b
     heads p = cc
+
     tails : {a b : List ℕ} {l k : List (List ℕ)} → a ∷ l ≡ b ∷ k → l ≡ k
     tails p = cc
 
@@ -81,12 +83,13 @@ read-worked need ps flat object s rows r =
     let whole : flat ≡ framed need object = framed-again need flat h (rows .bytes) (r .long) (r .filled) ∙ ap (framed need) (sym (r .object-is)) in
     let product : width (parts ps) * need ≡ rowsFor need (length object) * need = sym (rows .long) ∙ ap length whole ∙ length-framed need object h in
     let e : width (parts ps) ≡ rowsFor need (length object) =
-        sym (mul-div-cancel (width (parts ps)) h) ∙ ap (λ k. k / need) product ∙ mul-div-cancel (rowsFor need (length object)) h in
+    sym (mul-div-cancel (width (parts ps)) h) ∙ ap (λ k. k / need) product ∙ mul-div-cancel (rowsFor need (length object)) h in
     record {
       sound = s;
       bytes = subst Bytes (sym (r .object-is)) (all-take IsByte (lengthIn flat) (drop 4 flat) (all-drop IsByte 4 flat (rows .bytes)));
       length-is = omega (arith, ap length (r .object-is), length-take (lengthIn flat) (drop 4 flat), r .long .0);
-      pieces-are = rows .same ∙ ap₂ (λ k f. map (λ d. values need k (d + 1) f) (drives ps)) e whole }
+      pieces-are = rows .same ∙ ap₂ (λ k f. map (λ d. values need k (d + 1) f) (drives ps)) e whole;
+    }
 
 -- Where nothing is read off the rows behind pieces, no object is worked out of them.
 pub not-worked : (need : ℕ) (ps : List Piece) (flat : List ℕ) (e : PieceError) → Sound need ps → RowsOf need ps flat → NotRead need flat e → NotWorked need ps e
@@ -157,15 +160,17 @@ only-memory-making need drive object NotZeroFilled h d l n = elim n [ ]
 only-memory-making need drive object NoMemory h d l n = refl
 
 pub remade : (need drive : ℕ) (ps : List Piece) (r : Result (Vec ℕ Global) PieceError)
-  → Cases r (λ v. (object : List ℕ) × Worked need ps object × Made need drive object (vec-items v)) (λ e. NotWorked need ps e ⊎ ((object : List ℕ) × Worked need ps object × NotMade need drive object e))
-  → Remade need drive ps r
+    → Cases r (λ v. (object : List ℕ) × Worked need ps object × Made need drive object (vec-items v)) (λ e. NotWorked need ps e ⊎ ((object : List ℕ) × Worked need ps object × NotMade need drive object e))
+    → Remade need drive ps r
 remade need drive ps (Ok v) h = record {
-    told = h;
-    found = λ object w d. h .2 .piece-is ∙ ap (pieceOf need drive) (worked-same need ps (h .0) object (h .1) w) }
+  told = h;
+  found = λ object w d. h .2 .piece-is ∙ ap (pieceOf need drive) (worked-same need ps (h .0) object (h .1) w);
+}
 remade need drive ps (Err e) (inl h) = record { told = inl h; found = λ object w d. only-memory need ps object e w h }
 remade need drive ps (Err e) (inr h) = record {
-    told = inr h;
-    found = λ object w d. only-memory-making need drive (h .0) e (h .1 .sound .0 .0 .0 .0) d (h .1 .length-is) (h .2) }
+  told = inr h;
+  found = λ object w d. only-memory-making need drive (h .0) e (h .1 .sound .0 .0 .0 .0) d (h .1 .length-is) (h .2);
+}
 
 -- Pieces that were made of one object.
 made-parts : (need : ℕ) (ps : List Piece) (object : List ℕ) → All (λ p. Made need (p .drive) object (vec-items (p .bytes))) ps → parts ps ≡ piecesOf need (drives ps) object
@@ -191,11 +196,15 @@ made-work need ps object pos count apart bytes made =
     let some : 0 < length ps = omega arith in
     let first = first-made need ps object some made in
     record {
-      sound =
-        ((((first .0, count), made-drives need ps object made),
+      sound = (
+        (
+          ((first .0, count), made-drives need ps object made),
           subst (λ qs. All (λ p. length p ≡ width (parts ps)) qs) (sym same)
-          (subst (λ n. All (λ p. length p ≡ n) (piecesOf need (drives ps) object)) (sym (width-is need ps object some same)) (pieces-level need (drives ps) object))),
-         apart);
+              (subst (λ n. All (λ p. length p ≡ n) (piecesOf need (drives ps) object)) (sym (width-is need ps object some same)) (pieces-level need (drives ps) object)),
+        ),
+        apart,
+      );
       bytes = bytes;
       length-is = first .1;
-      pieces-are = same }
+      pieces-are = same;
+    }

@@ -63,14 +63,15 @@ rows-determined need (suc rows) xs f g bf bg bx d h lf lg same =
     let tf : length (take need f) ≡ need = length-take-le need f (omega arith) in
     let tg : length (take need g) ≡ need = length-take-le need g (omega arith) in
     let first : take need f ≡ take need g =
-        determined (take need f) (take need g) xs (all-take IsByte need f bf) (all-take IsByte need g bg) bx d (tf ∙ sym tg) (omega arith)
-          (λ x m. heads (same x m)) in
+    determined (take need f) (take need g) xs (all-take IsByte need f bf) (all-take IsByte need g bg) bx d (tf ∙ sym tg) (omega arith)
+    (λ x m. heads (same x m)) in
     let rest : drop need f ≡ drop need g =
-        rows-determined need rows xs (drop need f) (drop need g) (all-drop IsByte need f bf) (all-drop IsByte need g bg) bx d h
-          (simp length-drop (omega arith)) (simp length-drop (omega arith)) (λ x m. tails (same x m)) in
+    rows-determined need rows xs (drop need f) (drop need g) (all-drop IsByte need f bf) (all-drop IsByte need g bg) bx d h
+    (simp length-drop (omega arith)) (simp length-drop (omega arith)) (λ x m. tails (same x m)) in
     sym (take-append-drop need f) ∙ ap₂ (λ s t. s ++ t) first rest ∙ take-append-drop need g
   where
     heads : {a b : ℕ} {l m : List ℕ} → a ∷ l ≡ b ∷ m → a ≡ b
     heads p = cc
+
     tails : {a b : ℕ} {l m : List ℕ} → a ∷ l ≡ b ∷ m → l ≡ m
     tails p = cc

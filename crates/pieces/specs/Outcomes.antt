@@ -35,8 +35,8 @@ pub record Outcome (need : ℕ) (ps : List Piece) (r : Result (Vec ℕ Global) P
 -- is such an object, nothing but want of memory stops it for a drive that may be.
 pub record Remade (need drive : ℕ) (ps : List Piece) (r : Result (Vec ℕ Global) PieceError) : Type 0 where
   pub told :
-    Cases r (λ v. (object : List ℕ) × Worked need ps object × Made need drive object (vec-items v))
-    (λ e. NotWorked need ps e ⊎ ((object : List ℕ) × Worked need ps object × NotMade need drive object e))
+      Cases r (λ v. (object : List ℕ) × Worked need ps object × Made need drive object (vec-items v))
+      (λ e. NotWorked need ps e ⊎ ((object : List ℕ) × Worked need ps object × NotMade need drive object e))
   pub found : (object : List ℕ) → Worked need ps object → IsDrive drive → Cases r (λ v. vec-items v ≡ pieceOf need drive object) (λ e. e ≡ NoMemory)
 
 -- Pieces that were made of one object for as many different drives as are needed give it back: `Worked` holds of them.

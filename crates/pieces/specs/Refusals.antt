@@ -1,14 +1,13 @@
 -- When a piece is not made and an object not worked out, by each case of the error.
 -- Assumes nothing.
 use mathlib.Core.List.{List}
-use mathlib.Core.Logic.{_⊎_}
 use mathlib.Core.Path.{_≡_}
 use Prim.Native.Nat.{ℕ, _<_, _≤_, _*_}
 use lib.ListN.{length}
 use Rattle.std.specs.shelf.Lists.{All}
 use Rattle.elimination.specs.Polynomial.{Distinct}
-use Rattle.pieces.specs.Given.{IsNeed, IsDrive, drives, parts, width, Enough, OnDrives, OneLength, Sound, RowsOf, lengthIn, Long, Filled, Worked}
-use Rattle.pieces.specs.Rows.{MAX, LAST, pieceOf, rowsFor}
+use Rattle.pieces.specs.Given.{IsNeed, IsDrive, drives, parts, width, Enough, OnDrives, OneLength, Sound, RowsOf, lengthIn, Long, Filled}
+use Rattle.pieces.specs.Rows.{MAX, pieceOf, rowsFor}
 use Rattle.pieces.specs.declared.errors.PieceError.{PieceError}
 use Rattle.pieces.specs.declared.errors.PieceError.the-variants.{NeedOutOfRange, DriveOutOfRange, ObjectTooLong, TooFewPieces, TooManyPieces, DifferentLengths, SameDrive, LengthTooLarge, WrongRowCount, NotZeroFilled, NoMemory}
 use Rattle.pieces.specs.declared.working.Piece.{Piece}

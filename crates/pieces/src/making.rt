@@ -4,7 +4,7 @@ ghost use mathlib.Core.Path.{_≡_};
 ghost use Prim.Native.Nat.{ℕ, _+_, _*_, _<_, _≤_};
 ghost use Rattle.bytes.specs.Byte.{add, mul};
 ghost use Rattle.pieces.specs.Refusals.{Made, NotMade};
-ghost use Rattle.pieces.specs.Rows.{framed, values};
+ghost use Rattle.pieces.specs.Rows.{framed, rowsFor, values};
 ghost use Rattle.std.specs.Of.Vec.{vec-items};
 ghost use Rattle.std.specs.Results.{Cases};
 ghost use Rattle.std.specs.Vec.{made};
@@ -46,7 +46,7 @@ fn frame(heap: Global, need: usize, object: &[u8]) -> Result<Vec<u8>, AllocError
     ensures { λ r. ⌜ made r (λ v. vec-items v ≡ framed need (now (object .entry))) ⌝ }
 {
     let used = 4 + object.len();
-    let size = (used + (need - 1)) / need * need;
+    let size = framed_size(need, object.len());
     let mut flat = Vec::with_capacity(heap, size)?;
     flat.extend_from_slice(&(object.len() as u32).to_be_bytes())?;
     flat.extend_from_slice(object)?;
@@ -54,6 +54,15 @@ fn frame(heap: Global, need: usize, object: &[u8]) -> Result<Vec<u8>, AllocError
         flat.push(0)?;
     }
     Ok(flat)
+}
+
+// How many bytes the rows of an object of that length have: whole rows of `need` bytes for its length and its bytes.
+pub fn framed_size(need: usize, length: usize) -> usize
+    requires { ⌜ 0 < need ⌝ ∗ ⌜ need ≤ 31 ⌝ ∗ ⌜ length ≤ 65536 ⌝ }
+    ensures is { λ r. ⌜ r ≡ rowsFor need length * need ⌝ }
+    ensures holds { λ r. ⌜ 4 + length ≤ r ⌝ }
+{
+    (4 + length + (need - 1)) / need * need
 }
 
 // Writes into a piece of zeros the values of the rows at `x`, by Horner's rule, for all rows at once.

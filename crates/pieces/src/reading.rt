@@ -1,7 +1,7 @@
 // Reading an object off its rows.
-ghost use lib.ListN.{length, getD, take, drop};
+ghost use lib.ListN.{getD};
 ghost use mathlib.Core.Path.{_≡_};
-ghost use Prim.Native.Nat.{_+_, _<_, _≤_};
+ghost use Prim.Native.Nat.{_<_, _≤_};
 ghost use Rattle.pieces.specs.Given.{IsZero, lengthIn};
 ghost use Rattle.pieces.specs.Outcomes.{Read};
 ghost use Rattle.pieces.specs.Refusals.{NotRead};
@@ -12,6 +12,7 @@ ghost use Rattle.std.specs.shelf.Lists.{All};
 use crate::errors::PieceError;
 use crate::errors::PieceErrorFromAlloc;
 use crate::making::MAX;
+use crate::making::framed_size;
 use std::alloc::Global;
 
 // The object whose rows these are.
@@ -23,10 +24,10 @@ pub fn read(heap: Global, need: usize, flat: &[u8]) -> Result<Vec<u8>, PieceErro
     if length > MAX {
         return Err(PieceError::LengthTooLarge);
     }
-    let used = 4 + length;
-    if flat.len() != (used + (need - 1)) / need * need {
+    if flat.len() != framed_size(need, length) {
         return Err(PieceError::WrongRowCount);
     }
+    let used = 4 + length;
     if !all_zeros(&flat[used..]) {
         return Err(PieceError::NotZeroFilled);
     }
@@ -44,7 +45,11 @@ fn length_in(flat: &[u8]) -> usize
 fn byte_at(flat: &[u8], place: usize) -> usize
     ensures { λ r. ⌜ r ≡ getD (now (flat .entry)) place 0 ⌝ ∗ ⌜ r < 256 ⌝ }
 {
-    if place < flat.len() { flat[place] as usize } else { 0 }
+    if place < flat.len() {
+        flat[place] as usize
+    } else {
+        0
+    }
 }
 
 fn all_zeros(bytes: &[u8]) -> bool

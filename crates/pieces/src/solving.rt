@@ -1,10 +1,9 @@
 // The rows behind pieces, by one elimination for all rows.
-ghost use lib.ListN.{length};
 ghost use mathlib.Core.List.{map};
 ghost use mathlib.Core.Path.{_≡_};
 ghost use Prim.Native.Nat.{_+_};
 ghost use Rattle.elimination.specs.Polynomial.{Distinct};
-ghost use Rattle.pieces.specs.Given.{IsDrive, OneLength, RowsOf, drives, parts};
+ghost use Rattle.pieces.specs.Given.{IsDrive, OneLength, RowsOf, drives};
 ghost use Rattle.pieces.specs.Refusals.{NotWorked};
 ghost use Rattle.std.specs.Of.Vec.{vec-items};
 ghost use Rattle.std.specs.Results.{Cases};

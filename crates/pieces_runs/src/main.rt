@@ -65,7 +65,15 @@ fn comes_back(heap: Global, need: u8, length: usize) -> Result<bool, PieceError>
 fn lengths(heap: Global, need: u8) -> Result<u32, PieceError> {
     let row = need as usize;
     let mut good = 0u32;
-    for length in [0, 1, row.saturating_sub(4), row.saturating_sub(1), row, 65_535, 65_536] {
+    for length in [
+        0,
+        1,
+        row.saturating_sub(4),
+        row.saturating_sub(1),
+        row,
+        65_535,
+        65_536,
+    ] {
         if comes_back(heap, need, length)? {
             good = good.wrapping_add(1);
         }
@@ -110,7 +118,14 @@ fn of_one(heap: Global, need: u8, drive: u8, bytes: &[u8], code: u8) -> Result<u
 }
 
 // Is what comes of a piece of drive 0 and one of another drive, where `need` give the object back, the refusal with that number.
-fn of_two(heap: Global, need: u8, first: &[u8], drive: u8, second: &[u8], code: u8) -> Result<u32, PieceError> {
+fn of_two(
+    heap: Global,
+    need: u8,
+    first: &[u8],
+    drive: u8,
+    second: &[u8],
+    code: u8,
+) -> Result<u32, PieceError> {
     let pieces = vec![in heap; found(heap, 0, first)?, found(heap, drive, second)?]?;
     Ok(refused(work_out(heap, need, pieces.as_slice()), code))
 }
@@ -122,7 +137,12 @@ fn bad_pieces(heap: Global) -> Result<u32, PieceError> {
     let drive = of_one(heap, 1, 32, b"five", 4)?;
     let lengths = of_two(heap, 2, b"five", 1, b"seven", 6)?;
     let same = of_two(heap, 2, b"five", 0, b"five", 7)?;
-    Ok(few.wrapping_add(many).wrapping_add(drive).wrapping_add(lengths).wrapping_add(same))
+    Ok(
+        few.wrapping_add(many)
+            .wrapping_add(drive)
+            .wrapping_add(lengths)
+            .wrapping_add(same),
+    )
 }
 
 // How many of the refusals of the rows behind pieces come. The rows 0, 0; 0, 1; 7, 9 have the values 0, 1, 14 and 0, 2, 21 at the first two drives.

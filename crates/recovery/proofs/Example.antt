@@ -12,7 +12,7 @@ use Rattle.keeper.specs.Steps.{highest}
 use Rattle.recovery.specs.Disk.{readPlaces, readDrives, performAll, cut, MayCut, hasFrom, howMany}
 use Rattle.recovery.specs.Laws.{Laws, Content, Distinct, piecesOn}
 use Rattle.recovery.specs.World.{World, begin, write, finish, read, settle, outcomeOf, Bearable}
-use Rattle.recovery.specs.Events.{Event, step, cutShort, stop, others, failing, returns, after, First, Run, first, then}
+use Rattle.recovery.specs.Events.{Event, step, cutShort, stop, breaksOff, forgets, others, failing, goesOut, returns, after, First, Run, first, then}
 use Rattle.recovery.specs.Example.{ofFirst, copies, start, play, putting, breaking, settled, ended, Example}
 use Rattle.recovery.proofs.Safe.{safety}
 
@@ -30,7 +30,7 @@ copies-laws =
     works′ c [] e = absurd (omega arith)
     works′ c (d ∷ ds) e = refl
 
-small : (n : ℕ) → n < 256 → (b : ℕ) → List·Memᴰ b (n ∷ []) → b < 256
+pub small : (n : ℕ) → n < 256 → (b : ℕ) → List·Memᴰ b (n ∷ []) → b < 256
 small n l b m = let e = List·Memᴰ·eq-of-singleton m in omega arith
 
 started : Run copies start
@@ -48,22 +48,27 @@ started =
       bearable = lit≤ tt;
     })
 
+-- All that a played event computes with.
+unfoldable pub playing : Unit {0}
+unfolding play readPlaces readDrives performAll cut MayCut hasFrom howMany anyOf freePlace ownPlace contentOf howManyIn allHave highest
+playing = tt
+
 put : Run copies (play copies putting start)
 unfolding play
 put = then (then (then (then (then (then started stop tt) (step (begin (7 ∷ []))) (small 7 (lit≤ tt))) (step (write 0)) tt) (step (write 1)) tt) (step (write 2)) tt) (step finish) tt
 
 found-again : Run copies settled
-unfolding play readPlaces readDrives performAll cut MayCut hasFrom howMany anyOf freePlace ownPlace contentOf howManyIn allHave highest
+unfolding playing
 found-again =
-    then (then (then (then (then (then (then (then put (step (begin (8 ∷ []))) (small 8 (lit≤ tt))) (failing (write 2) 0 (Some []) 2) (tt, tt, lit≤ tt)) (cutShort (write 0) 0 (Some [])) (tt, tt))
-    (others 1027 2049 2049) (record { later = lit≤ tt; higher = lit≤ tt; below = lit≤ tt; filed = lit≤ tt })) (step settle) tt) (step (write 0)) tt) (step (write 1)) tt) (step finish) tt
+    then (then (then (then (then (then (then (then (then (then put (step (begin (8 ∷ []))) (small 8 (lit≤ tt))) (breaksOff (write 1) 0 None) (tt, tt)) (failing (write 2) 0 (Some []) 2) (tt, tt, lit≤ tt)) (cutShort (write 0) 0 (Some [])) (tt, tt))
+    forgets tt) (others 1027 2049 2049) (record { later = lit≤ tt; higher = lit≤ tt; below = lit≤ tt; filed = lit≤ tt })) (step settle) tt) (step (write 0)) tt) (step (write 1)) tt) (step finish) tt
 
 returned : Run copies ended
-unfolding play readPlaces readDrives performAll cut MayCut hasFrom howMany anyOf freePlace ownPlace contentOf howManyIn allHave highest
-returned = then found-again (returns 2 (λ k. settled .disk .bytes 2 k)) (λ k. safety copies copies-laws settled found-again .begun 2 k, lit≤ tt)
+unfolding playing
+returned = then (then found-again (returns 2 (λ k. settled .disk .bytes 2 k)) (λ k. safety copies copies-laws settled found-again .begun 2 k, lit≤ tt)) (goesOut 2) (lit≤ tt)
 
 answer : outcomeOf copies ended read .reply ≡ told 1027 (7 ∷ [])
-unfolding play readPlaces readDrives performAll cut MayCut hasFrom howMany anyOf freePlace ownPlace contentOf howManyIn allHave highest
+unfolding playing
 answer = refl
 
 pub example : Example

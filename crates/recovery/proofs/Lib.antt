@@ -13,5 +13,5 @@ pub mod Cleared
 pub mod Progress
 pub mod Store
 pub mod Example
-pub mod Existence
+pub mod Wrong
 pub mod Real

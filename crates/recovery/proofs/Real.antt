@@ -21,7 +21,6 @@ use Rattle.recovery.specs.Disk.{holds, Site}
 use Rattle.recovery.specs.Laws.{Content, Distinct, Laws, piecesOn}
 use Rattle.recovery.specs.Real.{readAs, realSite, Numbers, RealLaws, realDepot, RealSafety, Real}
 use Rattle.recovery.specs.Store.{Store, Runs, EachObject}
-use Rattle.recovery.proofs.Existence.{can-work}
 use Rattle.recovery.proofs.Store.{store-safety}
 
 -- A piece isn't longer than a slot has room for.
@@ -85,4 +84,4 @@ real-safety : RealSafety
 real-safety n need f k w s r o l = store-safety (realDepot n need f) (λ p m. real-laws n need p f k w) s r o l
 
 pub real : Real
-real = record { works = can-work; laws = real-laws; safety = real-safety }
+real = record { laws = real-laws; safety = real-safety }

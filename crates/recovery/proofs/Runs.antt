@@ -13,12 +13,12 @@ use Rattle.keeper.specs.Object.{Knowledge, unsure, counts, writing, State, Act,
 use Rattle.recovery.specs.Disk.{Slot, empty, holds, Site, Disk, slotAt, hasFrom, howMany, without, bearing, cut, MayCut, OnceBegun}
 use Rattle.recovery.specs.Laws.{Laws}
 use Rattle.recovery.specs.World.{Past, World, Call, outcomeOf, weak, Bearable}
-use Rattle.recovery.specs.Events.{Given, Event, step, cutShort, stop, others, failing, goesOut, returns, comingUp, stopped, after, MayMove, May, First, Run, first, then}
+use Rattle.recovery.specs.Events.{Given, Event, step, cutShort, stop, breaksOff, forgets, others, failing, goesOut, returns, comingUp, stopped, forgotten, after, MayMove, May, First, Run, first, then}
 use Rattle.recovery.specs.Promise.{Fresh, Own, Sequel}
 use Rattle.recovery.proofs.Invariant.{Right, Sound, Used, Writing, Knowing, LastIsBar, Consistent, Filed, Inv}
 use Rattle.recovery.proofs.Acts.{Strong, strong, not-weak, Keeps, refiled, Goes, stays, cut-goes}
 use Rattle.recovery.proofs.Work.{none-some}
-use Rattle.recovery.proofs.Well.{bearable-kept, OneFile, Mild, WellDone, Leads}
+use Rattle.recovery.proofs.Well.{bearable-kept, OneFile, Mild, WellDone, unsure-consistent, Leads}
 use Rattle.recovery.proofs.Steps.{step-well}
 
 pub record Happens (S : Site) (w : World) (e : Event) : Type 0 where
@@ -103,6 +103,19 @@ module _ (S : Site) (L : Laws S) (w : World) (I : Inv S w) where
       let g = stays S L (w .past .content) (w .past .last) (w .state .number) (w .state .bar) (w .disk) (I .sound) (I .filed) in
       let t = stopping (w .disk) g in
       record { inv = t .0; sequel = record { older = inl refl; fresh = t .1; unweakened = λ _ d l h. h } }
+  happens (breaksOff c n left) m =
+      let z = step-well S L w I c (m .0) in
+      let D′ = cut S (outcomeOf S w c .acts) n left (w .disk) in
+      let g = cut-mild (outcomeOf S w c .acts) n left (z .mild) (m .1) in
+      record {
+        inv = same-state D′ (g .sound) (g .filed) (bearable-kept S (w .disk) (w .past .last) D′ (w .past .last) (g .keeps) (I .bearable));
+        sequel = record { older = inl refl; fresh = still-fresh (after S (breaksOff c n left) w) refl (omega arith) (omega arith); unweakened = λ _. unweakened (w .disk) D′ (w .past .last) (w .past .last) (g .keeps) };
+      }
+  happens forgets m =
+      record {
+        inv = record { sound = I .sound; consistent = unsure-consistent (w .past) (w .state) (I .consistent); filed = record { number = I .filed .number; bar = I .filed .bar }; bearable = I .bearable };
+        sequel = record { older = inl refl; fresh = still-fresh (forgotten w) refl (omega arith) (omega arith); unweakened = λ _ d l h. h };
+      }
   happens (others next number inFile) m =
       record {
         inv =

@@ -30,7 +30,7 @@ use Rattle.recovery.proofs.Acts.{Strong, strong, not-weak, Keeps, refiled, Not
 use Rattle.recovery.proofs.Work.{some-same, none-some, works-out, worked, pieces-enough, Worked}
 use Rattle.recovery.proofs.Highest.{Good, AllGood, AtLeast, highest-good, highest-covers}
 use Rattle.recovery.proofs.Places.{free-place, free-spare, place-spare}
-use Rattle.recovery.proofs.Well.{bearable-kept, OneFile, Mild, WellDone, Well, using-old, unless-elim, raised-above, acting, idle, reserved, starting, Gently, Leads}
+use Rattle.recovery.proofs.Well.{bearable-kept, OneFile, Mild, WellDone, Well, using-old, unsure-consistent, unless-elim, raised-above, acting, idle, reserved, starting, Gently, Leads}
 
 -- What the tests of finish say.
 all-have : (n : ℕ) (isIn : ℕ → Bool) (v : ℕ) (rs : List Reading) → allHave n isIn v rs ≡ true → (d : ℕ) → d < n → isIn d ≡ true → holder d v rs ≡ true
@@ -225,7 +225,7 @@ module _ (S : Site) (L : Laws S) (w : World) (I : Inv S w) where
   giving-up-well (writing o v c) e =
       record {
         mild = inl tt;
-        inv = record { sound = I .sound; consistent = record { used = λ x y h. let u = I .consistent .used x y h in record { content = u .content; one = u .one; below = u .below; small = u .small; backed = u .backed }; known = tt; last = elim (I .consistent .last) [ inl f ↦ inl f | inr f ↦ inr (record { bar = f .bar; content = f .content; used = f .used }) ]; bar = I .consistent .bar; numbers = I .consistent .numbers }; filed = record { number = I .filed .number; bar = I .filed .bar }; bearable = I .bearable };
+        inv = record { sound = I .sound; consistent = unsure-consistent (w .past) (w .state) (I .consistent); filed = record { number = I .filed .number; bar = I .filed .bar }; bearable = I .bearable };
         keeps = λ x l h. h;
         older = inl refl;
         fresh = record { kept = λ x y h. h; new = λ x y h. inl h; next = omega arith; number = omega arith };

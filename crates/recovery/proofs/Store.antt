@@ -14,7 +14,7 @@ use Rattle.recovery.specs.Disk.{Site, Disk, perform, performAll, tear, cut, Ma
 use Rattle.recovery.specs.Laws.{Laws}
 use Rattle.recovery.specs.World.{World, Call, outcomeOf, Bearable}
 use Rattle.recovery.specs.Events
-use Rattle.recovery.specs.Events.{Given, stepped, onDisk, stopped, moved, MayMove, Run, then}
+use Rattle.recovery.specs.Events.{Given, stepped, onDisk, forgotten, stopped, moved, MayMove, Run, then}
 use Rattle.recovery.specs.Store
 use Rattle.recovery.specs.Store.{Depot, siteOf, Part, Store, seenBy, seen, partOf, putting, comingUpAll, withoutDrive, cutting, EachObject, StoreSafety, Runs, MayCutAt}
 use Rattle.recovery.proofs.Invariant.{Inv}
@@ -106,6 +106,13 @@ module _ (T : Depot) (L : (o : ℕ) → o < T .objects → Laws (siteOf T o)) wh
       (λ l. subst (λ (w : World). Run (siteOf T o) (stopped (w .disk) w)) (sym (same s runs o c n left m)) (then (runs o l) (Events.cutShort c n left) (m .1, m .2)))
       (λ d l. then (other s runs o c n left m p d l) Events.stop tt) k
   goes {s} runs Store.stop m p k = then (runs p k) Events.stop tt
+  goes {s} runs (Store.breaksOff o c n left) m p k =
+      either (λ x. x < T .objects → Run (siteOf T x) (seen x (cutting T o c n left s))) o p
+      (λ l. subst (Run (siteOf T o)) (sym (same s runs o c n left m)) (then (runs o l) (Events.breaksOff c n left) (m .1, m .2))) (λ d l. other s runs o c n left m p d l) k
+  goes {s} runs (Store.forgets o) m p k =
+      either (λ x. x < T .objects → Run (siteOf T x) (seen x (putting o (forgotten (seen o s)) s))) o p
+      (λ l. subst (Run (siteOf T o)) (sym (seen-same o (forgotten (seen o s)) s)) (then (runs o l) Events.forgets tt))
+      (λ d l. subst (Run (siteOf T p)) (sym (seen-other o p (forgotten (seen o s)) s d refl)) (runs p l)) k
   goes {s} runs (Store.failing o c n left d) m p k =
       either (λ x. x < T .objects → Bearable (siteOf T x) (seen x (withoutDrive d (cutting T o c n left s))) → Run (siteOf T x) (seen x (withoutDrive d (cutting T o c n left s)))) o p
       (λ l b. subst (λ (w : World). Run (siteOf T o) (onDisk (without d (w .disk)) w)) (sym (same s runs o c n left (m .0)))

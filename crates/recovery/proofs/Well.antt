@@ -10,7 +10,7 @@ use Rattle.std.specs.declared.option.Option.{Option}
 use Rattle.std.specs.declared.option.Option.the-variants.{Some, None}
 use Rattle.std.proofs.shelf.Tests.{false≢true, true≢false, eqb-true, eqb-false, eq-eqb, ne-eqb, leb-true, leb-false, not-true, not-false, cases-eq}
 use Rattle.keeper.specs.Object.{Knowledge, unsure, counts, writing, Reading, Act, writeSlot, clearSlot, replaceFile, Reply, State, Outcome, refuse}
-use Rattle.keeper.specs.Steps.{lastNumber, stride, raised, reserve, writingOn, unless}
+use Rattle.keeper.specs.Steps.{lastNumber, stride, raised, reserve, writingOn, forget, unless}
 use Rattle.keeper.specs.declared.refusal.Refusal.{Refusal}
 use Rattle.recovery.specs.Disk.{Site, Disk, howMany, filing, performAll, cut, MayCut}
 use Rattle.recovery.specs.Laws.{Content, Laws}
@@ -87,6 +87,17 @@ raised-above s h = go (leb (s .number) (s .next)) refl
     go : (b : Bool) → leb (s .number) (s .next) ≡ b → (s .next + 1 ≤ cond b (s .number + stride) (s .number)) × (s .number ≤ cond b (s .number + stride) (s .number))
     go true e = (omega arith, omega arith)
     go false e = let z = leb-false (s .number) (s .next) e in (omega arith, omega arith)
+
+-- What is no longer known for sure is as consistent.
+pub unsure-consistent : (P : Past) (s : State) → Consistent P s → Consistent P (forget s)
+unsure-consistent P s k =
+    record {
+      used = λ x y h. let u = k .used x y h in record { content = u .content; one = u .one; below = u .below; small = u .small; backed = u .backed };
+      known = tt;
+      last = elim (k .last) [ inl f ↦ inl f | inr f ↦ inr (record { bar = f .bar; content = f .content; used = f .used }) ];
+      bar = k .bar;
+      numbers = k .numbers;
+    }
 
 module _ (S : Site) (L : Laws S) (w : World) (I : Inv S w) where
   -- A step that only acts gently.

@@ -8,6 +8,7 @@ use lib.Dec.{eqb}
 use Rattle.std.specs.declared.option.Option.{Option}
 use Rattle.std.specs.declared.option.Option.the-variants.{Some, None}
 use Rattle.keeper.specs.Object.{Knowledge, unsure, counts, writing, State, Outcome}
+use Rattle.keeper.specs.Steps.{forget}
 use Rattle.recovery.specs.Disk.{Slot, empty, Site, Disk, slotAt, performAll, cut, MayCut, without, bearing, OnceBegun}
 use Rattle.recovery.specs.World.{Past, World, Call, begin, write, finish, read, tidy, sweep, mend, giveUp, settle, outcomeOf, noted, Bearable}
 
@@ -45,6 +46,10 @@ stopped D w = record { disk = D; state = comingUp D; past = w .past }
 abbrev pub onDisk : Disk → World → World
 onDisk D w = record { disk = D; state = w .state; past = w .past }
 
+-- The object is unsure from now on.
+abbrev pub forgotten : World → World
+forgotten w = record { disk = w .disk; state = forget (w .state); past = w .past }
+
 -- Other objects' steps move the numbers that all objects share.
 abbrev pub moved : (next number inFile : ℕ) → World → World
 moved next number inFile w =
@@ -59,6 +64,10 @@ pub data Event : Type 0 where
   step : Call → Event
   cutShort : Call → (count : ℕ) → (left : Option (List ℕ)) → Event
   stop : Event
+  -- a step that is broken off with no stop, as where memory is wanting: what was done stays, and the keeper goes on as it was before the step; and an object
+  -- of which the keeper no longer knows anything for sure, as after such a step
+  breaksOff : Call → (count : ℕ) → (left : Option (List ℕ)) → Event
+  forgets : Event
   -- steps of other objects
   others : (next number inFile : ℕ) → Event
   -- the world's: a drive fails in the middle of a step: what was done stays, the drive is out, and the keeper goes on as it was before the step
@@ -72,6 +81,8 @@ abbrev pub after : Site → Event → World → World
 after S (step c) w = stepped S c w
 after S (cutShort c n left) w = stopped (cut S (outcomeOf S w c .acts) n left (w .disk)) w
 after S stop w = stopped (w .disk) w
+after S (breaksOff c n left) w = onDisk (cut S (outcomeOf S w c .acts) n left (w .disk)) w
+after S forgets w = forgotten w
 after S (others next number inFile) w = moved next number inFile w
 after S (failing c n left d) w = onDisk (without d (cut S (outcomeOf S w c .acts) n left (w .disk))) w
 after S (goesOut d) w = onDisk (without d (w .disk)) w
@@ -89,6 +100,8 @@ abbrev pub May : Site → Event → World → Type 0
 May S (step c) w = Given c
 May S (cutShort c n left) w = Given c × MayCut S (outcomeOf S w c .acts) n left (w .disk)
 May S stop w = Unit {0}
+May S (breaksOff c n left) w = Given c × MayCut S (outcomeOf S w c .acts) n left (w .disk)
+May S forgets w = Unit {0}
 May S (others next number inFile) w = MayMove next number inFile (w .state)
 May S (failing c n left d) w = Given c × MayCut S (outcomeOf S w c .acts) n left (w .disk) × Bearable S (after S (failing c n left d) w)
 May S (goesOut d) w = Bearable S (after S (goesOut d) w)

@@ -10,7 +10,7 @@ use Rattle.keeper.specs.Object.{Codec, has as told}
 use Rattle.recovery.specs.Disk.{Slot, empty, holds, Format, Site}
 use Rattle.recovery.specs.Laws.{Laws}
 use Rattle.recovery.specs.World.{World, begin, write, finish, read, settle, outcomeOf}
-use Rattle.recovery.specs.Events.{firstState, Event, step, cutShort, stop, others, failing, returns, after, Run}
+use Rattle.recovery.specs.Events.{firstState, Event, step, cutShort, stop, breaksOff, forgets, others, failing, goesOut, returns, after, Run}
 
 -- Every piece is the whole, and any piece gives it back.
 abbrev pub ofFirst : List (ℕ × List ℕ) → Option (List ℕ)
@@ -22,15 +22,18 @@ abbrev pub asSlot : List ℕ → Slot
 asSlot [] = empty
 asSlot (v ∷ p) = holds v p
 
--- Three drives, of which two are needed.
-abbrev pub copies : Site
-copies =
+-- So many drives, of which so many are needed; and three, of which two are needed.
+abbrev pub copiesOn : (drives need : ℕ) → Site
+copiesOn n need =
     record {
-      drives = 3;
-      need = 2;
+      drives = n;
+      need = need;
       codec = record { encode = λ d v p. v ∷ p; pieceOf = λ d c. c; workOut = ofFirst };
       format = record { decode = λ d bs. asSlot bs; lay = λ bs old. bs; wipe = λ d old. [] };
     }
+
+abbrev pub copies : Site
+copies = copiesOn 3 2
 
 abbrev pub start : World
 start =
@@ -48,19 +51,19 @@ play S (e ∷ more) w = play S more (after S e w)
 abbrev pub putting : List Event
 putting = stop ∷ step (begin (7 ∷ [])) ∷ step (write 0) ∷ step (write 1) ∷ step (write 2) ∷ step finish ∷ []
 
--- Version 2, with the content 8, is begun. Drive 2 fails while it is written there, and a stop tears its writing to drive 0. Other objects' steps move the
--- numbers on. Settling finds version 1 and writes it anew, as 1,027, to the two drives that are in.
+-- Version 2, with the content 8, is begun. Its writing to drive 1 is broken off before it has begun, drive 2 fails while it is written there, and a stop tears
+-- its writing to drive 0. Other objects' steps move the numbers on. Settling finds version 1 and writes it anew, as 1,027, to the two drives that are in.
 abbrev pub breaking : List Event
 breaking =
-    step (begin (8 ∷ [])) ∷ failing (write 2) 0 (Some []) 2 ∷ cutShort (write 0) 0 (Some []) ∷ others 1027 2049 2049 ∷ step settle ∷ step (write 0) ∷
-    step (write 1) ∷ step finish ∷ []
+    step (begin (8 ∷ [])) ∷ breaksOff (write 1) 0 None ∷ failing (write 2) 0 (Some []) 2 ∷ cutShort (write 0) 0 (Some []) ∷ forgets ∷ others 1027 2049 2049 ∷
+    step settle ∷ step (write 0) ∷ step (write 1) ∷ step finish ∷ []
 
 abbrev pub settled : World
 settled = play copies breaking (play copies putting start)
 
--- Drive 2 comes back as it was, with version 1.
+-- Drive 2 comes back as it was, with version 1, and goes out again.
 abbrev pub ended : World
-ended = after copies (returns 2 (λ k. settled .disk .bytes 2 k)) settled
+ended = after copies (goesOut 2) (after copies (returns 2 (λ k. settled .disk .bytes 2 k)) settled)
 
 pub record Example : Type 0 where
   pub laws : Laws copies

@@ -6,4 +6,5 @@ pub mod Promise
 pub mod Progress
 pub mod Store
 pub mod Example
+pub mod Wrong
 pub mod Real

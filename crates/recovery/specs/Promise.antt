@@ -15,7 +15,7 @@ use Rattle.keeper.specs.Steps.{highest}
 use Rattle.recovery.specs.Disk.{Site, slotAt, readingsOf, has, howMany, OnceBegun}
 use Rattle.recovery.specs.Laws.{Laws, Distinct}
 use Rattle.recovery.specs.World.{Past, World, LastFinished, Backed, begin, finish, read, outcomeOf, weak}
-use Rattle.recovery.specs.Events.{Event, step, cutShort, stop, others, failing, goesOut, returns, stepped, after, May, Run}
+use Rattle.recovery.specs.Events.{Event, step, cutShort, stop, breaksOff, forgets, others, failing, goesOut, returns, stepped, after, May, Run}
 
 -- Any readings of the version last finished, on different drives and as many as are needed, work out to exactly the content that it was begun with, or from
 -- which it was settled.
@@ -84,6 +84,8 @@ abbrev pub Own : Event → Type 0
 Own (step c) = Unit {0}
 Own (cutShort c n left) = Unit {0}
 Own stop = Unit {0}
+Own (breaksOff c n left) = Unit {0}
+Own forgets = Unit {0}
 Own (others next number inFile) = Unit {0}
 Own (failing c n left d) = ⊥
 Own (goesOut d) = ⊥

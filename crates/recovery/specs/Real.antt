@@ -1,6 +1,6 @@
 -- The codec and the format that the code works by keep the laws: records lie in slots as the code lays and reads them, and pieces are values of polynomials.
 -- So all promises hold of the code's own steps.
--- Assumes nothing: `WorksOut` says what working out is, and by `CanWork` there is such a function.
+-- Assumes nothing: what working out is, is a premise, `WorksOut`, which the crate `codec` meets.
 use mathlib.Core.List.{List, _++_}
 use Prim.Native.Nat.{ℕ, _≤_, _<_}
 use lib.ListN.{length, drop}
@@ -41,11 +41,6 @@ abbrev pub RealSafety : Type 0
 RealSafety =
     (n need : ℕ) (f : WorkOut) → Numbers n need → WorksOut need f → (s : Store) → Runs (realDepot n need f) s → (o : ℕ) → o < 256 → EachObject (realDepot n need f) s o
 
--- There is a function that works contents out.
-abbrev pub CanWork : Type 0
-CanWork = (need : ℕ) → 1 ≤ need → (f : WorkOut) × WorksOut need f
-
 pub record Real : Type 0 where
-  pub works : CanWork
   pub laws : RealLaws
   pub safety : RealSafety

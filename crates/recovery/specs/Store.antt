@@ -11,7 +11,7 @@ use Rattle.keeper.specs.Object.{Knowledge, Codec}
 use Rattle.recovery.specs.Disk.{Format, Site, cut, MayCut, OnceBegun}
 use Rattle.recovery.specs.Laws.{Laws}
 use Rattle.recovery.specs.World.{Past, World, Call, outcomeOf, Bearable}
-use Rattle.recovery.specs.Events.{Given, stepped, comingUp, onDisk, First, Run}
+use Rattle.recovery.specs.Events.{Given, stepped, comingUp, onDisk, forgotten, First, Run}
 use Rattle.recovery.specs.Promise.{Safe}
 use Rattle.recovery.specs.Progress.{CanGoOn}
 
@@ -108,6 +108,8 @@ pub data Event : Type 0 where
   step : (object : ℕ) → Call → Event
   cutShort : (object : ℕ) → Call → (count : ℕ) → (left : Option (List ℕ)) → Event
   stop : Event
+  breaksOff : (object : ℕ) → Call → (count : ℕ) → (left : Option (List ℕ)) → Event
+  forgets : (object : ℕ) → Event
   failing : (object : ℕ) → Call → (count : ℕ) → (left : Option (List ℕ)) → (drive : ℕ) → Event
   goesOut : (drive : ℕ) → Event
   returns : (drive : ℕ) → (what : ℕ → ℕ → List ℕ) → Event
@@ -120,6 +122,8 @@ abbrev pub after : Depot → Event → Store → Store
 after T (step o c) s = putting o (stepped (siteOf T o) c (seen o s)) s
 after T (cutShort o c n left) s = comingUpAll (cutting T o c n left s)
 after T stop s = comingUpAll s
+after T (breaksOff o c n left) s = cutting T o c n left s
+after T (forgets o) s = putting o (forgotten (seen o s)) s
 after T (failing o c n left d) s = withoutDrive d (cutting T o c n left s)
 after T (goesOut d) s = withoutDrive d s
 after T (returns d what) s = withDrive d what s
@@ -135,6 +139,8 @@ abbrev pub May : Depot → Event → Store → Type 0
 May T (step o c) s = (o < T .objects) × Given c
 May T (cutShort o c n left) s = MayCutAt T o c n left s
 May T stop s = Unit {0}
+May T (breaksOff o c n left) s = MayCutAt T o c n left s
+May T (forgets o) s = o < T .objects
 May T (failing o c n left d) s = MayCutAt T o c n left s × AllBearable T (after T (failing o c n left d) s)
 May T (goesOut d) s = AllBearable T (after T (goesOut d) s)
 May T (returns d what) s =

@@ -3,6 +3,7 @@ ghost use Rattle.recovery.specs.Promise.{Safety, Onward, TakesHighest};
 ghost use Rattle.recovery.specs.Progress.{GoesOn};
 ghost use Rattle.recovery.specs.Store.{StoreSafety};
 ghost use Rattle.recovery.specs.Example.{Example};
+ghost use Rattle.recovery.specs.Wrong.{WrongTurns};
 ghost use Rattle.recovery.specs.Real.{Real};
 
 // After every run the version last finished can be worked out, what a read answers is its content, and nothing is worked out of pieces of two versions.
@@ -50,6 +51,14 @@ pub fn example_stands() -> u8
 // The codec and the slots that the code works by keep the laws, so all of it holds of the code's own steps.
 pub fn real_stands() -> u8
     ensures { λ _. ⌜ Real ⌝ }
+{
+    0
+}
+
+// What would go wrong otherwise: runs that break a keeper that settles under the number found, takes a version below the bar, drops the bar's pieces, or
+// comes up with the number last used.
+pub fn wrong_turns_stand() -> u8
+    ensures { λ _. ⌜ WrongTurns ⌝ }
 {
     0
 }

@@ -36,7 +36,7 @@ numberAt-spelled (suc k) n m xs ys e =
     let here : getD (xs ++ (b ∷ zs)) m 0 ≡ b = getD-at xs b zs 0 m e in
     let longer : length (xs ++ (b ∷ [])) ≡ m + 1 = length-push xs b ∙ ap (λ i. i + 1) e in
     let later : numberAt (xs ++ (b ∷ zs)) (m + 1) k ≡ n % 256 ^ k =
-      ap (λ l. numberAt l (m + 1) k) (sym (append-assoc xs (b ∷ []) zs)) ∙ numberAt-spelled k n (m + 1) (xs ++ (b ∷ [])) ys longer in
+    ap (λ l. numberAt l (m + 1) k) (sym (append-assoc xs (b ∷ []) zs)) ∙ numberAt-spelled k n (m + 1) (xs ++ (b ∷ [])) ys longer in
     numberAt-first (xs ++ (b ∷ zs)) m k ∙ ap (λ x. x * 256 ^ k + numberAt (xs ++ (b ∷ zs)) (m + 1) k) here ∙ ap (λ x. b * 256 ^ k + x) later
     ∙ sym (ap (λ p. n % p) (pow-succ' 256 k) ∙ mod-mul n {m = 256} {c = 256 ^ k} (omega arith) (power-pos k))
   where

@@ -34,9 +34,10 @@ fits-since o d bytes h =
 pub misfit : (o d : ℕ) (bytes : List ℕ) → (Fits o d bytes → ⊥) → empty ≡ readSlot o d bytes
 unfolding readSlot
 misfit o d bytes never =
-    elim (cases-bool (fits o d bytes))
-    [ inl t ↦ absurd (never (fits-since o d bytes t))
-    | inr f ↦ sym (cond-false (fits o d bytes) (holds (versionIn bytes) (take (lengthIn bytes) (drop 15 bytes))) empty f) ]
+    elim (cases-bool (fits o d bytes)) [
+      | inl t ↦ absurd (never (fits-since o d bytes t))
+      | inr f ↦ sym (cond-false (fits o d bytes) (holds (versionIn bytes) (take (lengthIn bytes) (drop 15 bytes))) empty f)
+    ]
 
 -- And bytes that fit as the piece that they name.
 pub fit : (o d : ℕ) (bytes : List ℕ) → Fits o d bytes → holds (versionIn bytes) (take (lengthIn bytes) (drop 15 bytes)) ≡ readSlot o d bytes
@@ -47,7 +48,8 @@ fit o d bytes h =
 -- What reads as a piece fits, and is the piece that it names.
 pub fits-from : (o d v : ℕ) (p bytes : List ℕ) → readSlot o d bytes ≡ holds v p → Fits o d bytes × (v ≡ versionIn bytes) × (p ≡ take (lengthIn bytes) (drop 15 bytes))
 fits-from o d v p bytes e =
-    elim (cases-bool (fits o d bytes))
-    [ inl t ↦ (let f = fits-since o d bytes t in let g = fit o d bytes f in (f, (cc), (cc)))
-    | inr f ↦ (let g : empty ≡ readSlot o d bytes = misfit o d bytes (λ h. both-ways (fits o d bytes) f (fits-true o d bytes h)) in
-      let z : _≡_ {A = ℕ} 0 1 = cc in absurd (omega arith)) ]
+    elim (cases-bool (fits o d bytes)) [
+      | inl t ↦ (let f = fits-since o d bytes t in let g = fit o d bytes f in (f, (cc), (cc)))
+      | inr f ↦ (let g : empty ≡ readSlot o d bytes = misfit o d bytes (λ h. both-ways (fits o d bytes) f (fits-true o d bytes h)) in
+          let z : _≡_ {A = ℕ} 0 1 = cc in absurd (omega arith))
+    ]

@@ -30,12 +30,18 @@ reads-written o d v p rest small room =
     let total : length bytes ≡ (15 + length p) + (4 + length rest) = ap length split ∙ length-append body (sum ++ rest) ∙ ap (λ n. n + length (sum ++ rest)) long ∙ ap (λ n. (15 + length p) + n) (length-append sum rest) in
     let front : take (15 + length p) bytes ≡ body = ap (take (15 + length p)) split ∙ take-at body (sum ++ rest) (15 + length p) long in
     let named : numberAt bytes (15 + length p) 4 ≡ adler body =
-      ap (λ l. numberAt l (15 + length p) 4) split ∙ numberAt-whole 4 (adler body) (15 + length p) body rest long (adler-lt body) in
+    ap (λ l. numberAt l (15 + length p) 4) split ∙ numberAt-whole 4 (adler body) (15 + length p) body rest long (adler-lt body) in
     let whole : around + lengthIn bytes ≤ length bytes = omega arith in
     let piece : take (lengthIn bytes) (drop 15 bytes) ≡ p =
-      ap (λ n. take n behind) len ∙ ap (take (length p)) (append-assoc p sum rest) ∙ take-at p (sum ++ rest) (length p) refl in
-    sym (fit o d bytes (record { whole = whole; room = omega arith; kind = refl; object = refl; drive = refl;
-      sum = ap (λ n. numberAt bytes (15 + n) 4) len ∙ named ∙ sym (ap adler (ap (λ n. take (15 + n) bytes) len ∙ front)) }))
+    ap (λ n. take n behind) len ∙ ap (take (length p)) (append-assoc p sum rest) ∙ take-at p (sum ++ rest) (length p) refl in
+    sym (fit o d bytes (record {
+      whole = whole;
+      room = omega arith;
+      kind = refl;
+      object = refl;
+      drive = refl;
+      sum = ap (λ n. numberAt bytes (15 + n) 4) len ∙ named ∙ sym (ap adler (ap (λ n. take (15 + n) bytes) len ∙ front));
+    }))
     ∙ ap (λ x. holds x (take (lengthIn bytes) (drop 15 bytes))) version ∙ ap (holds v) piece
 
 -- Zeros don't begin with 87.
@@ -45,7 +51,7 @@ cleared-by o d bytes (holds v p) e =
     let zeros : List ℕ = replicate (around + length p) 0 in
     let some : 0 < length zeros = omega (arith, length-replicate {A = ℕ} (around + length p) 0) in
     let first : getD (cleared o d bytes) 0 0 ≡ 0 =
-      ap (λ l. getD l 0 0) (sym (cleared-held o d v p bytes (sym e))) ∙ getD-append-left zeros (drop (around + length p) bytes) 0 0 some ∙ getD-replicate (around + length p) 0 0 0 (omega arith) in
+    ap (λ l. getD l 0 0) (sym (cleared-held o d v p bytes (sym e))) ∙ getD-append-left zeros (drop (around + length p) bytes) 0 0 some ∙ getD-replicate (around + length p) 0 0 0 (omega arith) in
     sym (misfit o d (cleared o d bytes) (λ h. let k = h .kind in omega arith))
 
 pub cleared-reads-empty : ClearedReadsEmpty
@@ -66,11 +72,16 @@ reads-prefix o d v n p bytes e enough =
     let whole : around + lengthIn front ≤ length front = omega (arith, length-take n bytes) in
     let more : n ≡ 15 + (n - 15) = omega arith in
     let piece : take (lengthIn bytes) (drop 15 front) ≡ take (lengthIn bytes) (drop 15 bytes) =
-      ap (λ i. take (lengthIn bytes) (drop 15 (take i bytes))) more ∙ ap (take (lengthIn bytes)) (drop-take 15 (n - 15) bytes)
-      ∙ take-take (lengthIn bytes) (n - 15) (drop 15 bytes) (omega arith) in
-    sym (fit o d front (record { whole = whole; room = omega (arith, h .room);
-      kind = getD-take n bytes 0 0 (omega arith) ∙ h .kind; object = getD-take n bytes 1 0 (omega arith) ∙ h .object; drive = getD-take n bytes 2 0 (omega arith) ∙ h .drive;
-      sum = ap (λ m. numberAt front (15 + m) 4) len ∙ sum ∙ h .sum ∙ sym (ap adler (ap (λ m. take (15 + m) front) len ∙ body)) }))
+    ap (λ i. take (lengthIn bytes) (drop 15 (take i bytes))) more ∙ ap (take (lengthIn bytes)) (drop-take 15 (n - 15) bytes)
+    ∙ take-take (lengthIn bytes) (n - 15) (drop 15 bytes) (omega arith) in
+    sym (fit o d front (record {
+      whole = whole;
+      room = omega (arith, h .room);
+      kind = getD-take n bytes 0 0 (omega arith) ∙ h .kind;
+      object = getD-take n bytes 1 0 (omega arith) ∙ h .object;
+      drive = getD-take n bytes 2 0 (omega arith) ∙ h .drive;
+      sum = ap (λ m. numberAt front (15 + m) 4) len ∙ sum ∙ h .sum ∙ sym (ap adler (ap (λ m. take (15 + m) front) len ∙ body));
+    }))
     ∙ ap (λ x. holds x (take (lengthIn front) (drop 15 front))) (version ∙ sym (f .1)) ∙ ap (λ m. holds v (take m (drop 15 front))) len ∙ ap (holds v) (piece ∙ sym (f .2))
 
 pub reads-own : ReadsOwn

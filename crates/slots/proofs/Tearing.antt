@@ -25,8 +25,10 @@ first-only x y xs zs (suc k) = inl refl
 pub torn-twice : TornTwice
 unfolding sums adler recordOf fits readSlot
 torn-twice = record {
-    first = 0 ∷ tail; second = 87 ∷ tail;
-    torn = record { asOld = refl; asNew = refl; each = but-first 0 87 tail (0 ∷ 0 ∷ 0 ∷ 0 ∷ 0 ∷ 0 ∷ 0 ∷ 0 ∷ 0 ∷ 0 ∷ 0 ∷ 0 ∷ 0 ∷ 0 ∷ 0 ∷ 0 ∷ 0 ∷ 0 ∷ 0 ∷ []) };
-    lost = refl;
-    again = record { asOld = refl; asNew = refl; each = first-only 0 87 tail (lib.ListN.drop 1 (recordOf 0 0 2049 (7 ∷ []))) };
-    back = refl }
+  first = 0 ∷ tail;
+  second = 87 ∷ tail;
+  torn = record { asOld = refl; asNew = refl; each = but-first 0 87 tail (0 ∷ 0 ∷ 0 ∷ 0 ∷ 0 ∷ 0 ∷ 0 ∷ 0 ∷ 0 ∷ 0 ∷ 0 ∷ 0 ∷ 0 ∷ 0 ∷ 0 ∷ 0 ∷ 0 ∷ 0 ∷ 0 ∷ []) };
+  lost = refl;
+  again = record { asOld = refl; asNew = refl; each = first-only 0 87 tail (lib.ListN.drop 1 (recordOf 0 0 2049 (7 ∷ []))) };
+  back = refl;
+}

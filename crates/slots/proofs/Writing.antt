@@ -26,15 +26,17 @@ front-put s xs ys at e =
 -- What `record_len` answers.
 pub room-some : (n end : ℕ) → Some end ≡ recordRoom n → (n ≤ pieceRoom) × (end ≡ around + n)
 room-some n end e =
-    elim (cases-bool (leb n pieceRoom))
-    [ inl t ↦ (let f = cond-true (leb n pieceRoom) (Some (around + n)) None t in (leb-true n pieceRoom t, (cc)))
-    | inr t ↦ (let f = cond-false (leb n pieceRoom) (Some (around + n)) None t in let z : _≡_ {A = ℕ} 0 1 = cc in absurd (omega arith)) ]
+    elim (cases-bool (leb n pieceRoom)) [
+      | inl t ↦ (let f = cond-true (leb n pieceRoom) (Some (around + n)) None t in (leb-true n pieceRoom t, (cc)))
+      | inr t ↦ (let f = cond-false (leb n pieceRoom) (Some (around + n)) None t in let z : _≡_ {A = ℕ} 0 1 = cc in absurd (omega arith))
+    ]
 
 pub room-none : (n : ℕ) → None ≡ recordRoom n → pieceRoom < n
 room-none n e =
-    elim (cases-bool (leb n pieceRoom))
-    [ inl t ↦ (let f = cond-true (leb n pieceRoom) (Some (around + n)) None t in let z : _≡_ {A = ℕ} 0 1 = cc in absurd (omega arith))
-    | inr t ↦ leb-false n pieceRoom t ]
+    elim (cases-bool (leb n pieceRoom)) [
+      | inl t ↦ (let f = cond-true (leb n pieceRoom) (Some (around + n)) None t in let z : _≡_ {A = ℕ} 0 1 = cc in absurd (omega arith))
+      | inr t ↦ leb-false n pieceRoom t
+    ]
 
 -- Whether there is room.
 pub has-room : (bytes p : List ℕ) → length p ≤ pieceRoom → around + length p ≤ length bytes → true ≡ hasRoom bytes p
@@ -64,7 +66,7 @@ written-put o d v n m sum p s s₁ s₂ s₃ room en em e₁ e₂ es e₃ =
     let longer : length body ≡ m = length-append head p ∙ sym em in
     let fs : sum ≡ adler body = es ∙ ap (λ l. adler (take m l)) f₂ ∙ ap adler (take-at body (drop (15 + length p) s) m longer) in
     let f₃ : s₃ ≡ putAt (body ++ drop n s) n (bytesOf 4 (adler body)) =
-      e₃ ∙ ap (λ l. putAt l n (bytesOf 4 sum)) f₂ ∙ ap (λ i. putAt (body ++ drop i s) n (bytesOf 4 sum)) (sym en) ∙ ap (λ x. putAt (body ++ drop n s) n (bytesOf 4 x)) fs in
+    e₃ ∙ ap (λ l. putAt l n (bytesOf 4 sum)) f₂ ∙ ap (λ i. putAt (body ++ drop i s) n (bytesOf 4 sum)) (sym en) ∙ ap (λ x. putAt (body ++ drop n s) n (bytesOf 4 x)) fs in
     let back : n + 4 ≡ around + length p = omega arith in
     f₃ ∙ front-put s body (bytesOf 4 (adler body)) n long ∙ ap (λ i. (body ++ bytesOf 4 (adler body)) ++ drop i s) back
     ∙ sym (cond-true (hasRoom s p) ((body ++ bytesOf 4 (adler body)) ++ drop (around + length p) s) s (sym room))
@@ -105,7 +107,8 @@ written-there o d v p bytes t = cond-true (hasRoom bytes p) (recordOf o d v p ++
 pub length-written : (o d v : ℕ) (p bytes : List ℕ) → length (written o d v p bytes) ≡ length bytes
 length-written o d v p bytes =
     let n = around + length p in
-    elim (cases-bool (hasRoom bytes p))
-    [ inl t ↦ (let room = room-parts bytes p t in
-      ap length (written-there o d v p bytes t) ∙ length-append (recordOf o d v p) (drop n bytes) ∙ omega (arith, length-record o d v p, length-drop n bytes))
-    | inr t ↦ ap length (sym (written-none o d v p bytes (sym t))) ]
+    elim (cases-bool (hasRoom bytes p)) [
+      | inl t ↦ (let room = room-parts bytes p t in
+          ap length (written-there o d v p bytes t) ∙ length-append (recordOf o d v p) (drop n bytes) ∙ omega (arith, length-record o d v p, length-drop n bytes))
+      | inr t ↦ ap length (sym (written-none o d v p bytes (sym t)))
+    ]

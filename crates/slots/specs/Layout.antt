@@ -1,7 +1,7 @@
 -- How numbers lie in a slot, and where each part of a record stands.
 -- Assumes nothing.
 use mathlib.Core.List.{List, [], _∷_, _++_}
-use Prim.Native.Nat.{ℕ, zero, suc, _+_, _*_, _/_, _%_, _^_}
+use Prim.Native.Nat.{ℕ, zero, suc, _+_, _-_, _*_, _/_, _%_, _^_}
 use mathlib.Core.Bool.{cond}
 use lib.Dec.{leb}
 use lib.ListN.{length, getD, take, drop}
@@ -18,7 +18,7 @@ abbrev pub around : ℕ
 around = 19
 
 abbrev pub pieceRoom : ℕ
-pieceRoom = 65540
+pieceRoom = slotSize - around
 
 -- The lowest so many bytes of a number, the highest of them first.
 abbrev pub bytesOf : (count n : ℕ) → List ℕ

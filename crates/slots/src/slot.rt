@@ -20,6 +20,7 @@ const KIND: u8 = 87;
 
 // A record's bytes before its piece, and behind it.
 const HEADER: usize = 15;
+
 const TRAILER: usize = 4;
 
 // The longest piece that a slot has room for.
@@ -43,7 +44,11 @@ pub fn slot_len() -> usize
 pub fn record_len(piece: usize) -> Option<usize>
     ensures { λ r. ⌜ r ≡ recordRoom piece ⌝ }
 {
-    if piece <= PIECE { Some(HEADER + piece + TRAILER) } else { None }
+    if piece <= PIECE {
+        Some(HEADER + piece + TRAILER)
+    } else {
+        None
+    }
 }
 
 // What stands before a piece.
@@ -59,12 +64,35 @@ struct Header {
 fn read_header(slot: &[u8]) -> Option<Header>
     ensures { λ r. ⌜ BySome r (NoHeader (now (slot .entry))) (λ h. Names (now (slot .entry)) h) ⌝ }
 {
-    let [KIND, object, drive, v0, v1, v2, v3, v4, v5, v6, v7, l0, l1, l2, l3, ..] = slot else {
+    let [
+        KIND,
+        object,
+        drive,
+        v0,
+        v1,
+        v2,
+        v3,
+        v4,
+        v5,
+        v6,
+        v7,
+        l0,
+        l1,
+        l2,
+        l3,
+        ..
+    ] = slot
+    else {
         return None;
     };
     let version = u64::from_be_bytes([*v0, *v1, *v2, *v3, *v4, *v5, *v6, *v7]);
     let len = u32::from_be_bytes([*l0, *l1, *l2, *l3]) as usize;
-    Some(Header { object: *object, drive: *drive, version, len })
+    Some(Header {
+        object: *object,
+        drive: *drive,
+        version,
+        len,
+    })
 }
 
 // The number that the four bytes from a place on spell.
@@ -82,18 +110,26 @@ pub fn read(slot: &[u8], object: u8, drive: u8) -> Option<Held<'_>>
     let Some(header) = read_header(slot) else {
         return None;
     };
-    let Header { object: o, drive: d, version, len } = header;
+    let Header {
+        object: o,
+        drive: d,
+        version,
+        len,
+    } = header;
     if o != object || d != drive || len > PIECE || slot.len() < HEADER + len + TRAILER {
         return None;
     }
     if sum_at(slot, HEADER + len) != adler(&slot[0..HEADER + len]) {
         return None;
     }
-    Some(Held { version, piece: &slot[HEADER..HEADER + len] })
+    Some(Held {
+        version,
+        piece: &slot[HEADER..HEADER + len],
+    })
 }
 
 // What stands before a piece, in bytes.
-fn header_bytes(object: u8, drive: u8, version: u64, len: u32) -> [u8; 15]
+fn header_bytes(object: u8, drive: u8, version: u64, len: u32) -> [u8; HEADER]
     ensures { λ r. ⌜ r ≡ headerOf object drive version len ⌝ }
 {
     let mut bytes = [KIND, object, drive, 0, 0, 0, 0, 0, 0, 0, 0, 0, 0, 0, 0];
@@ -121,7 +157,11 @@ pub fn write(slot: &mut [u8], object: u8, drive: u8, version: u64, piece: &[u8])
     if slot.len() < end {
         return false;
     }
-    put(slot, 0, &header_bytes(object, drive, version, piece.len() as u32));
+    put(
+        slot,
+        0,
+        &header_bytes(object, drive, version, piece.len() as u32),
+    );
     put(slot, HEADER, piece);
     let sum = adler(&slot[0..end - TRAILER]);
     put(slot, end - TRAILER, &sum.to_be_bytes());
@@ -142,7 +182,13 @@ pub fn clear(slot: &mut [u8], object: u8, drive: u8) -> bool
 }
 
 // A piece's record in bytes of its own; none where a slot has no room for it.
-pub fn encode(heap: Global, object: u8, drive: u8, version: u64, piece: &[u8]) -> Result<Option<Vec<u8>>, AllocError>
+pub fn encode(
+    heap: Global,
+    object: u8,
+    drive: u8,
+    version: u64,
+    piece: &[u8],
+) -> Result<Option<Vec<u8>>, AllocError>
     ensures { λ r. ⌜ made r (λ v. mapped vec-items v ≡ recordFor object drive version (now (piece .entry))) ⌝ }
 {
     let Some(len) = record_len(piece.len()) else {

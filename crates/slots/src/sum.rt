@@ -18,7 +18,11 @@ pub fn adler(bytes: &[u8]) -> u32
     let mut second = 0;
     let mut at = 0;
     while at < bytes.len() {
-        let end = if bytes.len() - at < BLOCK { bytes.len() } else { at + BLOCK };
+        let end = if bytes.len() - at < BLOCK {
+            bytes.len()
+        } else {
+            at + BLOCK
+        };
         (first, second) = add_block(first, second, &bytes[at..end]);
         at = end;
     }

@@ -9,7 +9,9 @@ const LONGEST: usize = 65_574;
 
 // The object, drive and version of the slot whose bytes are changed.
 const OBJECT: u8 = 3;
+
 const DRIVE: u8 = 1;
+
 const VERSION: u64 = 1025;
 
 // The next number of a generator that the script has too.
@@ -82,7 +84,10 @@ fn changes(rt: &impl Print) -> io::Result<()> {
             behind = behind.saturating_add(found);
         }
     }
-    println!(rt, "found {within} of 6120 changes of the record, {behind} of 2040 behind it")
+    println!(
+        rt,
+        "found {within} of 6120 changes of the record, {behind} of 2040 behind it"
+    )
 }
 
 fn main(rt: LibcRuntime) -> io::Result<()> {

@@ -19,10 +19,11 @@ loop-place-again c =
     let bytes = c .args .drive .now in
     let long = length-readings bytes (c .args .object) (c .args .number) in
     let here = read-at bytes (c .slot-of .result .now) (c .args .object) (c .args .number) (c .loop-place .place) (c .loop-place-test .taken) (c .slot-of .ensures) in
-    elim (c .match-read .came)
-    [ in-Some·else-held-version w ↦ find-other (c .args .version) (w .in-Some .held .version) (c .loop-place .place) (w .in-Some .held .piece .now)
-      (readings bytes (c .args .object) (c .args .number)) (c .loop-place .inv) (omega arith) (w .in-Some .ensures tt ∙ here) (w .if-held-version .left)
-    | in-rest w ↦ find-empty (c .args .version) (c .loop-place .place) (readings bytes (c .args .object) (c .args .number)) (c .loop-place .inv) (omega arith) (w .in-rest .ensures tt ∙ here) ]
+    elim (c .match-read .came) [
+      | in-Some·else-held-version w ↦ find-other (c .args .version) (w .in-Some .held .version) (c .loop-place .place) (w .in-Some .held .piece .now)
+          (readings bytes (c .args .object) (c .args .number)) (c .loop-place .inv) (omega arith) (w .in-Some .ensures tt ∙ here) (w .if-held-version .left)
+      | in-rest w ↦ find-empty (c .args .version) (c .loop-place .place) (readings bytes (c .args .object) (c .args .number)) (c .loop-place .inv) (omega arith) (w .in-rest .ensures tt ∙ here)
+    ]
 
 pub returns : need.returns
 returns c =

@@ -16,7 +16,10 @@ returns c =
     let f = c .bounds-from .ensures .1 in
     let new = cleared o d (slotAt bytes o k) in
     let named = c .if-not-is-named .ensures tt in
-    record { answer = named; after =
-      slot-put bytes (c .clear .last .slot) new o k (c .bounds-from .result .0) (c .bounds-from .result .1) e f
-      (c .clear .ensures .after ∙ ap (cleared o d) (slot-cut bytes o k (c .bounds-from .result .0) (c .bounds-from .result .1) e f))
-      ∙ sym (cond-true (namesSlot (c .args .rule) (readSlot o d (slotAt bytes o k))) (withSlot bytes o k new) bytes (sym named)) }
+    record {
+      answer = named;
+      after =
+          slot-put bytes (c .clear .last .slot) new o k (c .bounds-from .result .0) (c .bounds-from .result .1) e f
+          (c .clear .ensures .after ∙ ap (cleared o d) (slot-cut bytes o k (c .bounds-from .result .0) (c .bounds-from .result .1) e f))
+          ∙ sym (cond-true (namesSlot (c .args .rule) (readSlot o d (slotAt bytes o k))) (withSlot bytes o k new) bytes (sym named));
+    }

@@ -26,9 +26,10 @@ loop-place-again c =
     let h = c .loop-place-test .taken in
     let named = c .take-at .ensures .answer ∙ ap (λ l. namesSlot rule (readSlot o d (slotAt l o i))) (inv .0) in
     let last = taken-more bytes (c .take-at .last .drive) o d i rule (c .take-at .ensures .after ∙ ap (λ l. takenAt l o d i rule) (inv .0)) in
-    elim (c .if-take-at .came)
-    [ then-take-at w ↦ (last, w .gone-is ∙ count-yes bytes o d i (c .loop-place .gone) rule h (sym (w .if-take-at .taken) ∙ named) (inv .1), omega (arith, w .gone-is))
-    | else-take-at w ↦ (last, w .gone-is ∙ count-no bytes o d i (c .loop-place .gone) rule h (sym (w .if-take-at .left) ∙ named) (inv .1), omega (arith, w .gone-is)) ]
+    elim (c .if-take-at .came) [
+      | then-take-at w ↦ (last, w .gone-is ∙ count-yes bytes o d i (c .loop-place .gone) rule h (sym (w .if-take-at .taken) ∙ named) (inv .1), omega (arith, w .gone-is))
+      | else-take-at w ↦ (last, w .gone-is ∙ count-no bytes o d i (c .loop-place .gone) rule h (sym (w .if-take-at .left) ∙ named) (inv .1), omega (arith, w .gone-is))
+    ]
 
 pub returns : need.returns
 returns c =
@@ -39,4 +40,5 @@ returns c =
     let long = length-readings bytes (c .args .object) (c .args .number) in
     record {
       answer = inv .1 ∙ ap (countBy (namesSlot (c .args .rule))) (take-all (c .loop-place .place) ss (omega arith));
-      after = inv .0 ∙ ap (λ n. takenBelow n bytes (c .args .object) (c .args .number) (c .args .rule)) four }
+      after = inv .0 ∙ ap (λ n. takenBelow n bytes (c .args .object) (c .args .number) (c .args .rule)) four;
+    }

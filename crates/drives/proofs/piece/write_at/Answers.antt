@@ -12,6 +12,9 @@ returns c =
     let e = c .bounds-from .ensures .0 in
     let f = c .bounds-from .ensures .1 in
     let cut = slot-cut bytes o (c .args .place) (c .bounds-from .result .0) (c .bounds-from .result .1) e f in
-    record { answer = c .write .ensures .answer ∙ ap (λ s. hasRoom s p) cut; after =
-      slot-put bytes (c .write .last .slot) (written o (c .args .number) (c .args .version) p (slotAt bytes o (c .args .place))) o (c .args .place)
-      (c .bounds-from .result .0) (c .bounds-from .result .1) e f (c .write .ensures .after ∙ ap (written o (c .args .number) (c .args .version) p) cut) }
+    record {
+      answer = c .write .ensures .answer ∙ ap (λ s. hasRoom s p) cut;
+      after =
+          slot-put bytes (c .write .last .slot) (written o (c .args .number) (c .args .version) p (slotAt bytes o (c .args .place))) o (c .args .place)
+          (c .bounds-from .result .0) (c .bounds-from .result .1) e f (c .write .ensures .after ∙ ap (written o (c .args .number) (c .args .version) p) cut);
+    }

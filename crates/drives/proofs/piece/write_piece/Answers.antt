@@ -10,4 +10,5 @@ returns-else-write-at c =
     let full = c .if-write-at .ensures tt .answer in
     record {
       answer = answer-full (c .args .drive .now) (c .args .piece .now) (c .args .object) (c .args .number) (c .args .version) (c .in-Some .place) there full;
-      after = after-full (c .args .drive .now) (c .write-at .last .drive) (c .args .piece .now) (c .args .object) (c .args .number) (c .args .version) (c .in-Some .place) there full (c .write-at .ensures .after) }
+      after = after-full (c .args .drive .now) (c .write-at .last .drive) (c .args .piece .now) (c .args .object) (c .args .number) (c .args .version) (c .in-Some .place) there full (c .write-at .ensures .after);
+    }

@@ -35,3 +35,8 @@ loop-i-again c =
     ∙ ap (λ (j : ℕ). (blocks f i ++ front) ++ part j) n
     ∙ append-assoc (blocks f i) front (part width)
     ∙ blocks-more f i
+
+pub returns : need.returns
+returns c =
+    let all : c .loop-i .i ≡ length (c .args .points .now) = omega arith in
+    c .loop-i .inv ∙ ap (blocks (rowOf (c .args .points .now) (c .args .values .now) (c .args .width))) all

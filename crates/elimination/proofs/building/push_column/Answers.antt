@@ -1,9 +1,10 @@
 -- The entries stand in the matrix, and one more is pushed.
 use mathlib.Core.List.{List, [], _∷_, _++_}
-use mathlib.Core.Path.{ap, _∙_}
+use mathlib.Core.Path.{_≡_, sym, ap, _∙_}
 use native.Mathlib.Omega.{arith}
 use Prim.Native.Nat.{ℕ}
 use Rattle.std.specs.Of.Vec.{vec-items}
+use Rattle.std.proofs.shelf.Lists.{append-nil}
 use Rattle.std.proofs.shelf.Parts.{pushed}
 use Rattle.elimination.specs.Matrix.{cell, column}
 use Rattle.elimination.proofs.Blocks.{counted-more}
@@ -22,3 +23,11 @@ loop-i-again c =
     pushed {xs = done} (c .entry .result ∷ []) (c .loop-i .inv) (c .in-Continue-push .was tt) (c .push .ensures .items)
     ∙ ap (λ (x : ℕ). done ++ x ∷ []) (c .entry .ensures)
     ∙ counted-more (vec-items (c .args .out .now)) (λ i. cell w m i t) (c .loop-i .i)
+
+pub loop-i-holds : need.loop-i-holds
+loop-i-holds c = sym (append-nil (vec-items (c .args .out .now)))
+
+pub returns : need.returns
+returns c =
+    let all : c .loop-i .i ≡ c .args .k = omega arith in
+    c .loop-i .inv ∙ ap (λ (n : ℕ). vec-items (c .args .out .now) ++ column n (c .args .w) (c .args .m .now) (c .args .c)) all

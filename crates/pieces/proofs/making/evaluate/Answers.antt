@@ -17,7 +17,7 @@ pub loop-column-again : need.loop-column-again
 loop-column-again c r h =
     c .step .ensures r (omega arith)
     ∙ before-column (c .args .need) (c .args .flat .now) r (c .loop-column .column - 1) (c .loop-column .column) (c .args .x) _ (omega arith) (omega arith)
-      (row-inside (c .args .need) (length (c .args .piece .now)) (c .args .flat .now) r h (omega arith)) (c .loop-column .inv r h)
+    (row-inside (c .args .need) (length (c .args .piece .now)) (c .args .flat .now) r h (omega arith)) (c .loop-column .inv r h)
 
 pub returns : need.returns
 returns c =

@@ -1,6 +1,6 @@
 use mathlib.Core.Path.{_≡_, _∙_, ap, sym, subst}
 use mathlib.Core.List.{List}
-use Prim.Native.Nat.{ℕ, _+_, _-_, _*_, _/_, _≤_}
+use Prim.Native.Nat.{ℕ, _+_, _-_, _*_, _≤_}
 use native.Mathlib.Omega.{arith}
 use lib.ListN.{length, take, drop}
 use Rattle.std.specs.shelf.Lists.{All}
@@ -11,37 +11,38 @@ use Rattle.pieces.specs.Rows.{rowsFor, MAX}
 use Rattle.pieces.proofs.reading.read.Needs as need
 
 -- The tests, in the words of the definitions.
-long-is : (need n : ℕ) (flat : List ℕ) → n ≡ lengthIn flat → n ≤ MAX → length flat ≡ (4 + n + (need - 1)) / need * need → Long need flat
-unfolding rowsFor
-long-is need n flat e h l = (omega arith, l ∙ ap (λ k. (4 + k + (need - 1)) / need * need) e)
+long-is : (need n size : ℕ) (flat : List ℕ) → n ≡ lengthIn flat → n ≤ MAX → size ≡ rowsFor need n * need → length flat ≡ size → Long need flat
+long-is need n size flat e h is l = (omega arith, l ∙ is ∙ ap (λ k. rowsFor need k * need) e)
 
 rest-is : (n : ℕ) (flat : List ℕ) → n ≡ lengthIn flat → take (length flat - (4 + n)) (drop (4 + n) flat) ≡ drop (4 + lengthIn flat) flat
 rest-is n flat e = take-rest flat (4 + n) ∙ ap (λ k. drop (4 + k) flat) e
 
-pub returns-then-flat-used : need.returns-then-flat-used
-unfolding rowsFor
-returns-then-flat-used c =
+pub returns-then-flat-framed-size : need.returns-then-flat-framed-size
+returns-then-flat-framed-size c =
     let e = c .length-in-length .ensures in
-    (omega arith, λ h. c .if-flat-used .taken (h ∙ ap (λ k. (4 + k + (c .args .need - 1)) / c .args .need * c .args .need) (sym e)))
+    (omega arith, λ h. c .if-flat-framed-size .taken (h ∙ ap (λ k. rowsFor (c .args .need) k * c .args .need) (sym e) ∙ sym (c .framed-size .ensures .is)))
 
 pub returns-then-not-all-zeros : need.returns-then-not-all-zeros
 returns-then-not-all-zeros c =
-    let e = c .length-in-length .ensures in
-    (long-is (c .args .need) (c .length-in-length .result) (c .args .flat .now) e (omega arith) (c .if-flat-used .left),
-     λ z. c .if-not-all-zeros .ensures tt (subst (All IsZero) (sym (rest-is (c .length-in-length .result) (c .args .flat .now) e)) z))
+    let e = c .length-in-length .ensures in (
+      long-is (c .args .need) (c .length-in-length .result) (c .framed-size .result) (c .args .flat .now) e (omega arith) (c .framed-size .ensures .is) (c .if-flat-framed-size .left),
+      λ z. c .if-not-all-zeros .ensures tt (subst (All IsZero) (sym (rest-is (c .length-in-length .result) (c .args .flat .now) e)) z),
+    )
 
 pub returns-in-Break-from-slice : need.returns-in-Break-from-slice
 returns-in-Break-from-slice c =
     let e = c .length-in-length .ensures in
     let p = err-from-errBy (c .from-residual .result) (c .from-residual .ensures .1) in
-    rw (p .1, p .2)
-      (long-is (c .args .need) (c .length-in-length .result) (c .args .flat .now) e (omega arith) (c .if-flat-used .left),
-       subst (All IsZero) (rest-is (c .length-in-length .result) (c .args .flat .now) e) (c .if-not-all-zeros .ensures tt))
+    rw (p .1, p .2) (
+      long-is (c .args .need) (c .length-in-length .result) (c .framed-size .result) (c .args .flat .now) e (omega arith) (c .framed-size .ensures .is) (c .if-flat-framed-size .left),
+      subst (All IsZero) (rest-is (c .length-in-length .result) (c .args .flat .now) e) (c .if-not-all-zeros .ensures tt),
+    )
 
 pub returns : need.returns
 returns c =
     let e = c .length-in-length .ensures in
     record {
-      long = long-is (c .args .need) (c .length-in-length .result) (c .args .flat .now) e (omega arith) (c .if-flat-used .left);
+      long = long-is (c .args .need) (c .length-in-length .result) (c .framed-size .result) (c .args .flat .now) e (omega arith) (c .framed-size .ensures .is) (c .if-flat-framed-size .left);
       filled = subst (All IsZero) (rest-is (c .length-in-length .result) (c .args .flat .now) e) (c .if-not-all-zeros .ensures tt);
-      object-is = c .in-Continue-from-slice .ensures tt .made .0 ∙ ap (λ k. take k (drop 4 (c .args .flat .now))) (omega arith) }
+      object-is = c .in-Continue-from-slice .ensures tt .made .0 ∙ ap (λ k. take k (drop 4 (c .args .flat .now))) (omega arith);
+    }

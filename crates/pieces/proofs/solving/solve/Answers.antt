@@ -8,8 +8,8 @@ pub returns-in-Break-interpolate : need.returns-in-Break-interpolate
 returns-in-Break-interpolate c =
     let p = err-from-errBy (c .from-residual-in-Break-interpolate .result) (c .from-residual-in-Break-interpolate .ensures .1) in
     rw (p .1, p .2)
-      (not-found (c .args .need) (c .args .pieces .now) (c .as-slice .result .now) (c .as-slice-2 .result .now) _ (c .pre)
-        (c .as-slice .ensures .value ∙ c .in-Continue-points .ensures tt) (c .as-slice-2 .ensures .value ∙ c .in-Continue-values .ensures tt) (c .in-Break-interpolate .ensures tt))
+    (not-found (c .args .need) (c .args .pieces .now) (c .as-slice .result .now) (c .as-slice-2 .result .now) _ (c .pre)
+    (c .as-slice .ensures .value ∙ c .in-Continue-points .ensures tt) (c .as-slice-2 .ensures .value ∙ c .in-Continue-values .ensures tt) (c .in-Break-interpolate .ensures tt))
 
 pub returns : need.returns
 returns c =

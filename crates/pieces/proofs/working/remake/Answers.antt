@@ -16,4 +16,4 @@ returns c =
     let object = c .as-slice .result .now in
     let worked : Worked (c .args .need) (c .args .pieces .now) object = rw (c .as-slice .ensures .value) (c .in-Continue-object .ensures tt .told) in
     remade (c .args .need) (c .args .drive) (c .args .pieces .now) (c .make .result)
-      (cases-weaker (c .make .result) (c .make .ensures) (λ v m. (object, worked, m)) (λ e n. inr (object, worked, n)))
+    (cases-weaker (c .make .result) (c .make .ensures) (λ v m. (object, worked, m)) (λ e n. inr (object, worked, n)))

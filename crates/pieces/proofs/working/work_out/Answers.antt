@@ -21,6 +21,6 @@ returns c =
     let sound : Sound (c .args .need) (c .args .pieces .now) = (c .in-Continue-examine .ensures tt, found .0) in
     let rows = subst (RowsOf (c .args .need) (c .args .pieces .now)) (sym (c .as-slice .ensures .value)) (found .1) in
     outcome (c .args .need) (c .args .pieces .now) (c .read .result)
-      (cases-weaker (c .read .result) (c .read .ensures)
-        (λ v r. read-worked (c .args .need) (c .args .pieces .now) (c .as-slice .result .now) (vec-items v) sound rows r)
-        (λ e n. not-worked (c .args .need) (c .args .pieces .now) (c .as-slice .result .now) e sound rows n))
+    (cases-weaker (c .read .result) (c .read .ensures)
+    (λ v r. read-worked (c .args .need) (c .args .pieces .now) (c .as-slice .result .now) (vec-items v) sound rows r)
+    (λ e n. not-worked (c .args .need) (c .args .pieces .now) (c .as-slice .result .now) e sound rows n))

@@ -17,5 +17,8 @@ part-fill-end c = omega (arith, held-within (c .args .object) (c .args .drive) (
 pub returns : need.returns
 returns c =
     let e = c .in-Some .ensures tt in
-    record { answer = ap isHeld e; after = cleared-filled (c .args .object) (c .args .drive) (c .in-Some .held .version) (15 + length (c .in-Some .held .piece .now) + 4 - 0)
-      (c .in-Some .held .piece .now) (c .args .slot .now) (c .fill .last .self) e (omega arith) (c .fill .ensures .after (λ y h. h)) }
+    record {
+      answer = ap isHeld e;
+      after = cleared-filled (c .args .object) (c .args .drive) (c .in-Some .held .version) (15 + length (c .in-Some .held .piece .now) + 4 - 0)
+          (c .in-Some .held .piece .now) (c .args .slot .now) (c .fill .last .self) e (omega arith) (c .fill .ensures .after (λ y h. h));
+    }

@@ -25,7 +25,10 @@ returns c =
     let end = c .in-Some .end in
     let room = room-some (length p) end (c .in-Some .ensures tt) in
     let fits = has-room s p (room .0) (omega arith) in
-    record { answer = fits; after = written-put (c .args .object) (c .args .drive) (c .args .version) (end - 4) (end - 4 - 0) (c .adler-sum .result)
-      p s (c .put .last .slot) (c .put-2 .last .slot) (c .put-3 .last .slot) fits (omega arith) (omega arith)
-      (c .put .ensures ∙ ap (putAt s 0) (c .header-bytes .ensures)) (c .put-2 .ensures) (c .adler-sum .ensures)
-      (c .put-3 .ensures ∙ ap (putAt (c .put-2 .last .slot) (end - 4)) (c .to-be-bytes .ensures ∙ bytes4 (c .adler-sum .result))) }
+    record {
+      answer = fits;
+      after = written-put (c .args .object) (c .args .drive) (c .args .version) (end - 4) (end - 4 - 0) (c .adler-sum .result)
+          p s (c .put .last .slot) (c .put-2 .last .slot) (c .put-3 .last .slot) fits (omega arith) (omega arith)
+          (c .put .ensures ∙ ap (putAt s 0) (c .header-bytes .ensures)) (c .put-2 .ensures) (c .adler-sum .ensures)
+          (c .put-3 .ensures ∙ ap (putAt (c .put-2 .last .slot) (end - 4)) (c .to-be-bytes .ensures ∙ bytes4 (c .adler-sum .result)));
+    }

@@ -1,0 +1,3 @@
+mod Unique
+mod Trying
+mod Real

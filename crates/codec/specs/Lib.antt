@@ -1,0 +1,2 @@
+pub mod WorkOut
+pub mod Stands
