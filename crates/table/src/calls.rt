@@ -5,14 +5,14 @@ ghost use Rattle.keeper.specs.Real.{GivesBy};
 ghost use Rattle.keeper.specs.Shown.{readingsOf, Gives};
 ghost use Rattle.keeper.specs.Steps.{begin as begin-of, write as write-of, finish as finish-of, read as read-of, tidy as tidy-of, sweep as sweep-of, mend as mend-of, giveUp, settle as settle-of};
 ghost use Rattle.table.specs.Table.{stateAt, setupIn, onObject, Lent};
+use crate::table::Keeper;
+use drives::OBJECTS;
 use keeper::object::Entry;
 use keeper::object::Step;
 use keeper::placing;
 use keeper::refusal::Refusal;
 use keeper::settling;
 use keeper::steps;
-use crate::table::Keeper;
-use drives::OBJECTS;
 use std::alloc::Global;
 
 impl Keeper {

@@ -12,8 +12,8 @@ ghost use Rattle.slots.specs.Layout.{numberAt};
 ghost use Rattle.keeper.specs.declared.refusal.Refusal.the-variants.{BadFile, NoMemory};
 ghost use Rattle.table.specs.File.{pageOf, fileOf, barsIn, isFile, readFile, FileReads};
 use crate::page::Page;
-use keeper::refusal::Refusal;
 use drives::OBJECTS;
+use keeper::refusal::Refusal;
 use std::alloc::AllocError;
 use std::alloc::Global;
 

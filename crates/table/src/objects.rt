@@ -19,14 +19,14 @@ ghost use Rattle.table.specs.Table.{knowledge, barsOf, stateAt, Lent, Accepted
 ghost use Rattle.keeper.specs.declared.refusal.Refusal.the-variants.{NoSuch, NoMemory};
 use crate::file::decode;
 use crate::file::encode;
-use keeper::object::Answer;
-use keeper::object::Known;
-use keeper::object::Object;
 use crate::page::Page;
-use keeper::refusal::Refusal;
 use crate::table::Keeper;
 use drives::Drives;
 use drives::OBJECTS;
+use keeper::object::Answer;
+use keeper::object::Known;
+use keeper::object::Object;
+use keeper::refusal::Refusal;
 use std::alloc::AllocError;
 use std::alloc::Global;
 use std::mem::replace;

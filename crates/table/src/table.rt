@@ -2,8 +2,8 @@
 ghost use mathlib.Core.Path.{_≡_};
 ghost use Prim.Native.Nat.{_<_, _≤_};
 ghost use Rattle.std.specs.Of.Vec.{vec-len};
-use keeper::object::Known;
 use drives::Drives;
+use keeper::object::Known;
 
 // How many pieces give an object back, which drives are in, what is known of each object, its bar, and the numbers that all objects share.
 #[derive(Drop)]

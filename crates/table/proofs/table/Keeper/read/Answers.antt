@@ -9,5 +9,6 @@ pub returns : need.returns
 returns c =
     record {
       step = by-codec (λ C u d s. read C u s (readingsOf (c .args .entries .now))) (c .read .result) (c .args .self .now) (c .lend-state .last .self) (stateOf (c .lend-state .result)) (c .flags .result .now) (c .args .object) 0 0
-        (c .lend-state .ensures .state) (c .lend-state .ensures .after) (c .flags .ensures .each) refl (omega arith) (c .read .ensures);
-      after = c .lend-state .ensures .after }
+          (c .lend-state .ensures .state) (c .lend-state .ensures .after) (c .flags .ensures .each) refl (omega arith) (c .read .ensures);
+      after = c .lend-state .ensures .after;
+    }
