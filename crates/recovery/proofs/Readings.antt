@@ -28,13 +28,13 @@ pub record Read (S : Site) (D : Disk) (r : Reading) : Type 0 where
   pub isIn : D .out (r .drive) ≡ false
   pub slot : slotAt S D (r .drive) (r .place) ≡ holds (r .version) (r .piece)
 
-record OnDrive (S : Site) (D : Disk) (c d k : ℕ) (r : Reading) : Type 0 where
-  drive : r .drive ≡ d
-  from : k ≤ r .place
-  below : r .place < k + c
-  slot : slotAt S D (r .drive) (r .place) ≡ holds (r .version) (r .piece)
+pub record OnDrive (S : Site) (D : Disk) (c d k : ℕ) (r : Reading) : Type 0 where
+  pub drive : r .drive ≡ d
+  pub from : k ≤ r .place
+  pub below : r .place < k + c
+  pub slot : slotAt S D (r .drive) (r .place) ≡ holds (r .version) (r .piece)
 
-mem-places : (S : Site) (D : Disk) (c d k : ℕ) {r : Reading} → List·Memᴰ r (readPlaces S D c d k) → OnDrive S D c d k r
+pub mem-places : (S : Site) (D : Disk) (c d k : ℕ) {r : Reading} → List·Memᴰ r (readPlaces S D c d k) → OnDrive S D c d k r
 unfolding readPlaces
 mem-places S D zero d k m = absurd (List·Memᴰ·not-nil m)
 mem-places S D (suc n) d k {r} m = go (slotAt S D d k) refl m (mem-places S D n d (suc k))
@@ -73,14 +73,14 @@ places-mem S D (suc n) d k x v p h a b = go (cases-order k x) (places-mem S D n 
     go (inr (inl l)) f = further (slotAt S D d k) (f (omega arith) (omega arith))
     go (inr (inr l)) f = absurd (omega arith)
 
-record OnDrives (S : Site) (D : Disk) (c d : ℕ) (r : Reading) : Type 0 where
-  from : d ≤ r .drive
-  below : r .drive < d + c
-  low : r .place < 4
-  isIn : D .out (r .drive) ≡ false
-  slot : slotAt S D (r .drive) (r .place) ≡ holds (r .version) (r .piece)
+pub record OnDrives (S : Site) (D : Disk) (c d : ℕ) (r : Reading) : Type 0 where
+  pub from : d ≤ r .drive
+  pub below : r .drive < d + c
+  pub low : r .place < 4
+  pub isIn : D .out (r .drive) ≡ false
+  pub slot : slotAt S D (r .drive) (r .place) ≡ holds (r .version) (r .piece)
 
-mem-drives : (S : Site) (D : Disk) (c d : ℕ) {r : Reading} → List·Memᴰ r (readDrives S D c d) → OnDrives S D c d r
+pub mem-drives : (S : Site) (D : Disk) (c d : ℕ) {r : Reading} → List·Memᴰ r (readDrives S D c d) → OnDrives S D c d r
 unfolding readDrives
 mem-drives S D zero d m = absurd (List·Memᴰ·not-nil m)
 mem-drives S D (suc n) d {r} m = go (D .out d) refl (List·Memᴰ·append-cases (cond (D .out d) [] (readPlaces S D places d 0)) m) (mem-drives S D n (suc d))
