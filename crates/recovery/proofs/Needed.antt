@@ -1,9 +1,9 @@
 -- A step comes out the same over the readings that it has to make.
 use mathlib.Core.Path.{_≡_, refl, sym, ap, subst, _∙_}
-use mathlib.Core.Logic.{_⊎_, inl, inr}
+use mathlib.Core.Logic.{inl, inr}
 use mathlib.Core.Bool.{Bool, true, false, cond, _&&_, _||_, not}
 use mathlib.Core.List.{List, [], _∷_, _++_, map, List·Memᴰ, List·Memᴰ·head, List·Memᴰ·tail, List·Memᴰ·not-nil, List·Memᴰ·append-cases}
-use Prim.Native.Nat.{ℕ, zero, suc, _+_, _≤_, _<_}
+use Prim.Native.Nat.{ℕ, zero, suc, _≤_}
 use native.Mathlib.Omega.{arith}
 use lib.Dec.{eqb, ltb, leb}
 use lib.ListN.{length, take}
@@ -12,16 +12,16 @@ use Rattle.std.specs.declared.option.Option.{Option}
 use Rattle.std.specs.declared.option.Option.the-variants.{Some, None}
 use Rattle.std.proofs.shelf.Elements.{kept-by-append}
 use Rattle.std.proofs.shelf.Lists.{append-nil, take-append-le, length-append}
-use Rattle.std.proofs.shelf.Tests.{false≢true, true≢false, eqb-true, eqb-false, eq-eqb, ne-eqb, ltb-true, lt-ltb, le-ltb, ltb-false, le-leb, and-parts, and-from, and-left, not-true, not-from-false, cases-bool}
-use Rattle.keeper.specs.Object.{Knowledge, unsure, counts, writing, Reading, State, Outcome, Setup, done, removed, mended, clearSlot, none}
-use Rattle.keeper.specs.Readings.{anyOf, isOf, holder, precedes, copied, countsAt, taken, freePlace, ownPlace, placeFor, countsAs, piecesOf, given, contentOf, clears}
+use Rattle.std.proofs.shelf.Tests.{true≢false, eqb-true, eqb-false, eq-eqb, ne-eqb, lt-ltb, le-ltb, ltb-false, le-leb, and-parts, and-left, not-true, not-from-false}
+use Rattle.keeper.specs.Object.{Knowledge, unsure, counts, writing, Reading, State, Outcome, done, removed, mended, clearSlot, none}
+use Rattle.keeper.specs.Readings.{anyOf, isOf, holder, precedes, copied, countsAt, taken, freePlace, ownPlace, placeFor, countsAs, piecesOf, given, contentOf}
 use Rattle.keeper.specs.Steps
 use Rattle.keeper.specs.Steps.{places, unless}
 use Rattle.keeper.specs.declared.refusal.Refusal.the-variants.{NoSuch, DriveOut}
 use Rattle.recovery.specs.Disk.{Slot, empty, holds, Site, Disk, slotAt, withReading, readPlaces, readDrives, readingsOf}
 use Rattle.recovery.specs.World.{setup}
-use Rattle.recovery.specs.Needed.{onDrive, lowest, lowestBut, Reaches, Suffices, FewSuffice}
-use Rattle.recovery.proofs.Lists.{any-mem, mem-any, any-none, mem-kept}
+use Rattle.recovery.specs.Needed.{onDrive, lowest, lowestBut, Reaches, FewSuffice}
+use Rattle.recovery.proofs.Lists.{any-mem, any-none, mem-kept}
 use Rattle.recovery.proofs.Readings.{of-true, true-of, mem-read, mem-places, mem-drives, mem-pieces}
 
 -- Tests over a part of a list.

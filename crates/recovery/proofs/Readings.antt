@@ -1,22 +1,19 @@
 -- What the list of readings has: exactly the pieces on drives that are in, by drive and place; and what the tests over it say.
 use mathlib.Core.Path.{_≡_, refl, sym, ap, subst, _∙_}
 use mathlib.Core.Logic.{_⊎_, inl, inr}
-use mathlib.Core.Bool.{Bool, true, false, cond, _&&_, _||_, not}
+use mathlib.Core.Bool.{Bool, true, false, cond, _||_, not}
 use mathlib.Core.List.{List, [], _∷_, _++_, map, List·Memᴰ, List·Memᴰ·head, List·Memᴰ·tail, List·Memᴰ·not-nil, List·Memᴰ·cases-cons, List·Memᴰ·append-cases, Memᴰ·append-left, Memᴰ·append-right}
 use Prim.Native.Nat.{ℕ, zero, suc, _+_, _≤_, _<_}
 use native.Mathlib.Omega.{arith}
-use lib.Dec.{eqb, ltb, leb}
-use lib.ListN.{length, take}
+use lib.Dec.{eqb, ltb}
 use Rattle.std.specs.shelf.Lists.{kept-by}
-use Rattle.std.specs.declared.option.Option.{Option}
-use Rattle.std.specs.declared.option.Option.the-variants.{Some, None}
-use Rattle.std.proofs.shelf.Tests.{false≢true, true≢false, or-cases, or-left, or-right, eqb-true, eqb-false, eq-eqb, ne-eqb, and-parts, and-from, not-true, not-false, not-from-false, not-from-true, ltb-true, lt-ltb, cases-order, cases-bool, cases-lt}
+use Rattle.std.proofs.shelf.Tests.{false≢true, true≢false, or-cases, or-left, or-right, eqb-true, eq-eqb, and-parts, and-from, not-true, not-from-false, ltb-true, lt-ltb, cases-order}
 use Rattle.keeper.specs.Object.{Reading}
-use Rattle.keeper.specs.Readings.{anyOf, isOf, holder, precedes, copied, countsAt, taken, freePlace, ownPlace, placeFor, countsAs, piecesOf}
+use Rattle.keeper.specs.Readings.{isOf, holder, precedes, copied, countsAs, piecesOf}
 use Rattle.keeper.specs.Steps.{places}
 use Rattle.recovery.specs.Disk.{Slot, empty, holds, Site, Disk, slotAt, withReading, readPlaces, readDrives, readingsOf, isVersion, hasFrom, has}
 use Rattle.recovery.specs.Laws.{Distinct}
-use Rattle.recovery.proofs.Lists.{any-mem, mem-any, none-passes, any-none, mem-kept, kept-mem, map-mem, mem-map}
+use Rattle.recovery.proofs.Lists.{any-mem, mem-any, mem-kept, kept-mem, mem-map}
 
 -- The reading of a place.
 abbrev pub asRead : (d k v : ℕ) → List ℕ → Reading
