@@ -22,7 +22,7 @@ at-points (d ∷ ds) f g e x m =
     elim (List·Memᴰ·cases-cons m) [ inl h ↦ ap f h ∙ here ∙ sym (ap g h) | inr h ↦ at-points ds f g rest x h ]
 
 -- A piece has a byte for each row.
-pub length-piece : (need d : ℕ) (c : List ℕ) → length (pieceOf need d c) ≡ rowsFor need (length c)
+length-piece : (need d : ℕ) (c : List ℕ) → length (pieceOf need d c) ≡ rowsFor need (length c)
 unfolding pieceOf
 length-piece need d c = length-values need (rowsFor need (length c)) (d + 1) (framed need c)
 

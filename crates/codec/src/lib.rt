@@ -1,8 +1,8 @@
-// That there is a codec such as the keeper's contracts speak of, and that it obeys the laws that the theorem of the whole asks for.
-ghost use Rattle.codec.specs.Stands.{RealLaws, RealPromise};
+// That there is a codec such as the keeper's contracts speak of, and what the theorem of the whole comes to with it.
+ghost use Rattle.codec.specs.Stands.{RealPromise};
 ghost use Rattle.codec.specs.WorkOut.{SomeWorksOut};
+use recovery::real_stands;
 use recovery::sequel_stands;
-use recovery::store_stands;
 
 // There is a function that works a content out of its pieces, so no contract is true for want of one.
 pub fn codec_stands() -> u8
@@ -11,18 +11,11 @@ pub fn codec_stands() -> u8
     0
 }
 
-// The laws of the theorem hold of the records, slots and pieces that the code works with.
-pub fn laws_stand() -> u8
-    ensures { λ _. ⌜ RealLaws ⌝ }
-{
-    codec_stands()
-}
-
 // What is promised of a store through every run holds of the bytes that the code works with: no codec is left to assume.
 pub fn promise_stands() -> u8
     ensures { λ _. ⌜ RealPromise ⌝ }
 {
-    let _ = laws_stand();
-    let _ = store_stands();
+    let _ = codec_stands();
+    let _ = real_stands();
     sequel_stands()
 }
