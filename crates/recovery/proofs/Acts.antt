@@ -2,14 +2,14 @@
 -- leave every place right and no drive weak that wasn't.
 use mathlib.Core.Path.{_≡_, refl, sym, ap, subst, _∙_}
 use mathlib.Core.Logic.{_⊎_, inl, inr}
-use mathlib.Core.Bool.{Bool, true, false, cond, _&&_, _||_, not}
-use mathlib.Core.List.{List, [], _∷_, _++_, map, List·Memᴰ, List·Memᴰ·head, List·Memᴰ·tail, List·Memᴰ·not-nil, List·Memᴰ·cases-cons}
-use Prim.Native.Nat.{ℕ, zero, suc, _+_, _≤_, _<_}
+use mathlib.Core.Bool.{Bool, true, false, cond, _&&_, not}
+use mathlib.Core.List.{List, [], _∷_, map, List·Memᴰ, List·Memᴰ·head, List·Memᴰ·tail, List·Memᴰ·cases-cons}
+use Prim.Native.Nat.{ℕ, zero, suc, _≤_, _<_}
 use native.Mathlib.Omega.{arith}
-use lib.Dec.{eqb, ltb, leb}
+use lib.Dec.{eqb}
 use Rattle.std.specs.declared.option.Option.{Option}
 use Rattle.std.specs.declared.option.Option.the-variants.{Some, None}
-use Rattle.std.proofs.shelf.Tests.{false≢true, true≢false, eqb-true, eqb-false, eq-eqb, ne-eqb, and-parts, and-from, and-cases, not-true, not-false, or-parts, or-from, cases-eq}
+use Rattle.std.proofs.shelf.Tests.{false≢true, eqb-true, eq-eqb, and-parts, and-from, and-cases, not-false, or-parts, or-from, cases-eq}
 use Rattle.keeper.specs.Object.{Reading, Act, writeSlot, clearSlot, replaceFile}
 use Rattle.keeper.specs.Steps.{lastNumber}
 use Rattle.recovery.specs.Disk.{Slot, empty, holds, Site, Disk, slotAt, at, placing, remember, begunBy, filing, perform, performAll, OnceBegun, tear, MayLeave, cut, MayCut, has}

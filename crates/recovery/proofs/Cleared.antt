@@ -1,14 +1,14 @@
 -- What is left on the drives after readings were taken away.
-use mathlib.Core.Path.{_≡_, refl, sym, ap, subst, _∙_}
-use mathlib.Core.Logic.{_⊎_, inl, inr}
-use mathlib.Core.Bool.{Bool, true, false, cond, not}
-use mathlib.Core.List.{List, [], _∷_, _++_, map, List·Memᴰ, List·Memᴰ·head, List·Memᴰ·tail, List·Memᴰ·not-nil, List·Memᴰ·cases-cons}
+use mathlib.Core.Path.{_≡_, refl, sym, subst, _∙_}
+use mathlib.Core.Logic.{inl, inr}
+use mathlib.Core.Bool.{Bool, true, false}
+use mathlib.Core.List.{List, [], _∷_, map, List·Memᴰ, List·Memᴰ·head, List·Memᴰ·tail, List·Memᴰ·not-nil, List·Memᴰ·cases-cons}
 use Prim.Native.Nat.{ℕ, _<_}
 use native.Mathlib.Omega.{arith}
 use Rattle.std.specs.shelf.Lists.{kept-by}
-use Rattle.keeper.specs.Object.{Reading, Act, clearSlot}
+use Rattle.keeper.specs.Object.{Reading, clearSlot}
 use Rattle.keeper.specs.Readings.{clears}
-use Rattle.recovery.specs.Disk.{Slot, empty, holds, Site, Disk, slotAt, readingsOf, filing, perform, performAll}
+use Rattle.recovery.specs.Disk.{empty, holds, Site, Disk, slotAt, readingsOf, filing, perform, performAll}
 use Rattle.recovery.specs.Laws.{Laws}
 use Rattle.recovery.proofs.Lists.{mem-kept, kept-mem}
 use Rattle.recovery.proofs.Readings.{mem-read, read-mem, asRead}

@@ -1,19 +1,19 @@
 -- The worked run: each of its events may happen, and the read at its end answers.
 use mathlib.Core.Path.{_≡_, refl}
 use mathlib.Core.List.{List, [], _∷_, List·Memᴰ, List·Memᴰ·eq-of-singleton}
-use Prim.Native.Nat.{ℕ, _≤_, _<_}
+use Prim.Native.Nat.{ℕ, _<_}
 use native.Mathlib.Omega.{arith}
 use lib.Dec.{lit≤}
 use lib.ListN.{length}
 use Rattle.std.specs.declared.option.Option.the-variants.{Some, None}
-use Rattle.keeper.specs.Object.{Codec, has as told}
+use Rattle.keeper.specs.Object.{has as told}
 use Rattle.keeper.specs.Readings.{anyOf, freePlace, ownPlace, contentOf, howManyIn, allHave}
 use Rattle.keeper.specs.Steps.{highest}
 use Rattle.recovery.specs.Disk.{readPlaces, readDrives, performAll, cut, MayCut, hasFrom, howMany}
-use Rattle.recovery.specs.Laws.{Laws, Content, Distinct, piecesOn}
-use Rattle.recovery.specs.World.{World, begin, write, finish, read, settle, outcomeOf, Bearable}
-use Rattle.recovery.specs.Events.{Event, step, cutShort, stop, breaksOff, forgets, others, failing, goesOut, returns, after, First, Run, first, then}
-use Rattle.recovery.specs.Example.{ofFirst, copies, start, play, putting, breaking, settled, ended, Example}
+use Rattle.recovery.specs.Laws.{Laws, piecesOn}
+use Rattle.recovery.specs.World.{begin, write, finish, read, settle, outcomeOf}
+use Rattle.recovery.specs.Events.{step, cutShort, stop, breaksOff, forgets, others, failing, goesOut, returns, Run, first, then}
+use Rattle.recovery.specs.Example.{ofFirst, copies, start, play, putting, settled, ended, Example}
 use Rattle.recovery.proofs.Safe.{safety}
 
 copies-laws : Laws copies

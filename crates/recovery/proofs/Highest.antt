@@ -1,14 +1,14 @@
 -- Settling's choice: it works out, isn't below the bar, and nothing above it does.
 use mathlib.Core.Path.{_≡_, refl, sym, ap, subst, _∙_}
 use mathlib.Core.Logic.{_⊎_, inl, inr}
-use mathlib.Core.Bool.{Bool, true, false, cond, _&&_, _||_, not}
-use mathlib.Core.List.{List, [], _∷_, List·Memᴰ, List·Memᴰ·head, List·Memᴰ·tail, List·Memᴰ·not-nil, List·Memᴰ·cases-cons}
-use Prim.Native.Nat.{ℕ, zero, suc, _+_, _≤_, _<_}
+use mathlib.Core.Bool.{Bool, true, false, cond, _&&_}
+use mathlib.Core.List.{List, [], _∷_, List·Memᴰ, List·Memᴰ·not-nil, List·Memᴰ·cases-cons}
+use Prim.Native.Nat.{ℕ, _≤_}
 use native.Mathlib.Omega.{arith}
-use lib.Dec.{eqb, ltb, leb}
+use lib.Dec.{ltb, leb}
 use Rattle.std.specs.declared.option.Option.{Option}
 use Rattle.std.specs.declared.option.Option.the-variants.{Some, None}
-use Rattle.std.proofs.shelf.Tests.{false≢true, true≢false, leb-true, le-leb, ltb-true, ltb-false, and-parts, and-from}
+use Rattle.std.proofs.shelf.Tests.{true≢false, leb-true, le-leb, ltb-true, ltb-false, and-parts, and-from}
 use Rattle.keeper.specs.Object.{Reading, Codec, Setup}
 use Rattle.keeper.specs.Readings.{contentOf}
 use Rattle.keeper.specs.Steps.{Found, higher, taking, better, highest}

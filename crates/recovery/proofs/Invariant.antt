@@ -1,17 +1,17 @@
 -- What holds after every run: every place has the right piece of a used version or nothing, and the state, the file and the history fit together.
-use mathlib.Core.Path.{_≡_, refl, sym, ap, subst, _∙_}
-use mathlib.Core.Logic.{_⊎_, inl, inr}
-use mathlib.Core.Bool.{Bool, true, false, cond, _&&_, _||_, not}
-use mathlib.Core.List.{List, [], _∷_, List·Memᴰ}
-use Prim.Native.Nat.{ℕ, _+_, _≤_, _<_}
+use mathlib.Core.Path.{_≡_, subst}
+use mathlib.Core.Logic.{_⊎_}
+use mathlib.Core.Bool.{Bool, not}
+use mathlib.Core.List.{List, List·Memᴰ}
+use Prim.Native.Nat.{ℕ, _≤_, _<_}
 use Rattle.std.specs.declared.option.Option.{Option}
 use Rattle.std.specs.declared.option.Option.the-variants.{Some, None}
 use Rattle.keeper.specs.Object.{Knowledge, unsure, counts, writing, State, Reading}
 use Rattle.keeper.specs.Readings.{contentOf}
 use Rattle.keeper.specs.Steps.{lastNumber, Found, highest}
-use Rattle.recovery.specs.Disk.{Slot, empty, holds, Site, Disk, slotAt, readingsOf, OnceBegun}
+use Rattle.recovery.specs.Disk.{holds, Site, Disk, slotAt, readingsOf, OnceBegun}
 use Rattle.recovery.specs.Laws.{Content}
-use Rattle.recovery.specs.World.{Past, World, LastFinished, Backed, setup, weak, Bearable}
+use Rattle.recovery.specs.World.{Past, World, Backed, setup, Bearable}
 
 -- A piece on a drive is right: its version is used, and it is the piece of that version's content.
 pub record Right (S : Site) (content : ℕ → Option (List ℕ)) (d v : ℕ) (p : List ℕ) : Type 0 where

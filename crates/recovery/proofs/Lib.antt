@@ -15,3 +15,4 @@ pub mod Store
 pub mod Example
 pub mod Wrong
 pub mod Real
+pub mod Needed

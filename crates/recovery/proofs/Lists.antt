@@ -1,14 +1,14 @@
 -- What is in a list that was filtered, mapped or tested; lists of different numbers; and how many numbers below a bound pass a test.
 use mathlib.Core.Path.{_≡_, refl, sym, ap, subst, _∙_}
 use mathlib.Core.Logic.{_⊎_, inl, inr}
-use mathlib.Core.Bool.{Bool, true, false, cond, _&&_, _||_, not}
-use mathlib.Core.List.{List, [], _∷_, _++_, map, List·Memᴰ, List·Memᴰ·head, List·Memᴰ·tail, List·Memᴰ·not-nil, List·Memᴰ·cases-cons}
+use mathlib.Core.Bool.{Bool, true, false, cond, _||_, not}
+use mathlib.Core.List.{List, [], _∷_, map, List·Memᴰ, List·Memᴰ·head, List·Memᴰ·tail, List·Memᴰ·not-nil, List·Memᴰ·cases-cons}
 use Prim.Native.Nat.{ℕ, zero, suc, _+_, _≤_, _<_}
 use native.Mathlib.Omega.{arith}
-use lib.Dec.{eqb, ltb, leb}
+use lib.Dec.{eqb}
 use lib.ListN.{length, take}
 use Rattle.std.specs.shelf.Lists.{kept-by}
-use Rattle.std.proofs.shelf.Tests.{false≢true, true≢false, or-cases, or-left, or-right, eqb-true, eqb-false, eq-eqb, ne-eqb}
+use Rattle.std.proofs.shelf.Tests.{false≢true, true≢false, or-cases, or-left, or-right, eqb-true, eq-eqb, ne-eqb}
 use Rattle.keeper.specs.Readings.{anyOf}
 use Rattle.recovery.specs.Laws.{Distinct}
 use Rattle.recovery.specs.Disk.{howMany}

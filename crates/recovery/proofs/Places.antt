@@ -1,21 +1,21 @@
 -- Where a new piece goes: a place of a drive that is its own already, or one that is spare.
-use mathlib.Core.Path.{_≡_, refl, sym, ap, subst, _∙_}
+use mathlib.Core.Path.{_≡_, refl, sym, subst, _∙_}
 use mathlib.Core.Logic.{_⊎_, inl, inr}
 use mathlib.Core.Bool.{Bool, true, false, cond, _&&_, _||_, not}
-use mathlib.Core.List.{List, [], _∷_, List·Memᴰ, List·Memᴰ·head, List·Memᴰ·tail, List·Memᴰ·not-nil}
+use mathlib.Core.List.{List, [], _∷_, List·Memᴰ, List·Memᴰ·head, List·Memᴰ·tail}
 use Prim.Native.Nat.{ℕ, zero, suc, _+_, _≤_, _<_}
 use native.Mathlib.Omega.{arith}
-use lib.Dec.{eqb, ltb, leb}
+use lib.Dec.{eqb}
 use Rattle.std.specs.declared.option.Option.{Option}
 use Rattle.std.specs.declared.option.Option.the-variants.{Some, None}
-use Rattle.std.proofs.shelf.Tests.{false≢true, true≢false, eqb-true, eq-eqb, and-parts, and-from, not-true, not-false, not-from-false, cases-eq, cases-bool}
+use Rattle.std.proofs.shelf.Tests.{false≢true, true≢false, eqb-true, eq-eqb, and-parts, and-from, not-true, not-from-false, cases-eq}
 use Rattle.keeper.specs.Object.{Reading}
 use Rattle.keeper.specs.Readings.{anyOf, isOf, holder, copied, countsAt, taken, freePlace, ownPlace, placeFor}
 use Rattle.keeper.specs.Steps.{places}
-use Rattle.recovery.specs.Disk.{Slot, empty, holds, Site, Disk, slotAt, readingsOf}
-use Rattle.recovery.proofs.Lists.{any-mem, mem-any, none-passes, any-none}
-use Rattle.recovery.proofs.Readings.{Read, mem-read, read-mem, asRead, of-true, Lower, copied-lower, lower-copied, Holding}
-use Rattle.recovery.proofs.Acts.{Spare, Elsewhere, NotLast, spare-from}
+use Rattle.recovery.specs.Disk.{holds, Site, Disk, slotAt, readingsOf}
+use Rattle.recovery.proofs.Lists.{any-mem, mem-any}
+use Rattle.recovery.proofs.Readings.{mem-read, read-mem, asRead, of-true, Lower, copied-lower, lower-copied, Holding}
+use Rattle.recovery.proofs.Acts.{Spare, Elsewhere, spare-from}
 use Rattle.recovery.proofs.Work.{some-same, none-some}
 
 own-place : (d v : ℕ) (rs : List Reading) (k : ℕ) → ownPlace d v rs ≡ Some k → (r : Reading) × List·Memᴰ r rs × (isOf d v r ≡ true) × (r .place ≡ k)

@@ -1,31 +1,30 @@
 -- The keeper can always go on.
-use mathlib.Core.Path.{_≡_, refl, sym, ap, subst, _∙_}
+use mathlib.Core.Path.{_≡_, refl, sym, subst, _∙_}
 use mathlib.Core.Logic.{_⊎_, inl, inr}
 use mathlib.Core.Bool.{Bool, true, false, cond, _&&_, _||_, not}
-use mathlib.Core.List.{List, [], _∷_, _++_, map, List·Memᴰ}
+use mathlib.Core.List.{List, [], _∷_, _++_}
 use Prim.Native.Nat.{ℕ, zero, suc, _+_, _≤_, _<_}
 use native.Mathlib.Omega.{arith}
 use lib.Dec.{eqb, ltb, leb}
 use Rattle.std.specs.declared.option.Option.{Option}
 use Rattle.std.specs.declared.option.Option.the-variants.{Some, None}
-use Rattle.std.proofs.shelf.Tests.{false≢true, true≢false, eqb-true, eqb-false, eq-eqb, ne-eqb, lt-leb, le-ltb, not-false, not-true, not-from-false, not-from-true, and-from, and-parts, and-cases, or-cases, cases-eq}
-use Rattle.keeper.specs.Object.{Knowledge, unsure, counts, writing, Reading, Act, writeSlot, replaceFile, done, isVersion, has as told, none, removed, mended, found, unknown, State, Outcome, refuse}
-use Rattle.keeper.specs.Readings.{holder, taken, placeFor, ownPlace, freePlace, contentOf, clears, howManyIn, allHave, countsAt}
+use Rattle.std.proofs.shelf.Tests.{false≢true, true≢false, eqb-true, eq-eqb, ne-eqb, lt-leb, le-ltb, not-false, not-from-true, and-from, and-cases, or-cases, cases-eq}
+use Rattle.keeper.specs.Object.{Knowledge, unsure, counts, writing, Reading, writeSlot, replaceFile, done, isVersion, mended, State, Outcome, refuse}
+use Rattle.keeper.specs.Readings.{holder, placeFor, clears, howManyIn, allHave}
 use Rattle.keeper.specs.Steps
-use Rattle.keeper.specs.Steps.{Found, places, lastNumber, raised, reserve, highest, stride}
+use Rattle.keeper.specs.Steps.{Found, places, lastNumber, stride}
 use Rattle.keeper.specs.declared.refusal.Refusal.the-variants.{NoSuch, DriveOut, NotEverywhere, TooFewIn, NoMoreVersions}
-use Rattle.recovery.specs.Disk.{Slot, empty, holds, Site, Disk, slotAt, readingsOf, has, howMany, filing, placing, begunBy, perform, performAll}
-use Rattle.recovery.specs.Laws.{Laws, Content}
-use Rattle.recovery.specs.World.{Past, World, Call, write, finish, tidy, mend, giveUp, settle, setup, outcomeOf, weak}
-use Rattle.recovery.specs.Events.{Given, carriedOut, stepped, Run}
+use Rattle.recovery.specs.Disk.{holds, Site, Disk, slotAt, has, begunBy, perform, performAll}
+use Rattle.recovery.specs.Laws.{Laws}
+use Rattle.recovery.specs.World.{World, write, finish, tidy, mend, giveUp, settle, setup, weak}
+use Rattle.recovery.specs.Events.{stepped}
 use Rattle.recovery.specs.Progress.{BySteps, here, then, Counting, CanGoOn, GoesOn}
-use Rattle.recovery.proofs.Lists.{howMany-mono, howMany-not, any-none}
-use Rattle.recovery.proofs.Readings.{Read, mem-read, read-mem, asRead, Holding, holding-has, has-holding, holding-holder, holder-holding}
+use Rattle.recovery.proofs.Lists.{howMany-mono, howMany-not}
+use Rattle.recovery.proofs.Readings.{mem-read, Holding, holding-has, holding-holder, holder-holding}
 use Rattle.recovery.proofs.Invariant.{Inv, Writing, Knowing, LastIsBar, readings, isIn, workedOut, best}
-use Rattle.recovery.proofs.Acts.{slot-other, slot-same, at-elim}
-use Rattle.recovery.proofs.Cleared.{Spared, spared, clears-keep, empty-holds}
+use Rattle.recovery.proofs.Acts.{slot-other, slot-same}
+use Rattle.recovery.proofs.Cleared.{Spared, spared, clears-keep}
 use Rattle.recovery.proofs.Places.{room, place-low}
-use Rattle.recovery.proofs.Well.{Well}
 use Rattle.recovery.proofs.Steps.{step-well, in-howMany}
 use Rattle.recovery.proofs.Runs.{run-inv}
 use Rattle.recovery.proofs.Safe.{counted, last-used, last-works}

@@ -1,22 +1,19 @@
 -- What the list of readings has: exactly the pieces on drives that are in, by drive and place; and what the tests over it say.
 use mathlib.Core.Path.{_≡_, refl, sym, ap, subst, _∙_}
 use mathlib.Core.Logic.{_⊎_, inl, inr}
-use mathlib.Core.Bool.{Bool, true, false, cond, _&&_, _||_, not}
+use mathlib.Core.Bool.{Bool, true, false, cond, _||_, not}
 use mathlib.Core.List.{List, [], _∷_, _++_, map, List·Memᴰ, List·Memᴰ·head, List·Memᴰ·tail, List·Memᴰ·not-nil, List·Memᴰ·cases-cons, List·Memᴰ·append-cases, Memᴰ·append-left, Memᴰ·append-right}
 use Prim.Native.Nat.{ℕ, zero, suc, _+_, _≤_, _<_}
 use native.Mathlib.Omega.{arith}
-use lib.Dec.{eqb, ltb, leb}
-use lib.ListN.{length, take}
+use lib.Dec.{eqb, ltb}
 use Rattle.std.specs.shelf.Lists.{kept-by}
-use Rattle.std.specs.declared.option.Option.{Option}
-use Rattle.std.specs.declared.option.Option.the-variants.{Some, None}
-use Rattle.std.proofs.shelf.Tests.{false≢true, true≢false, or-cases, or-left, or-right, eqb-true, eqb-false, eq-eqb, ne-eqb, and-parts, and-from, not-true, not-false, not-from-false, not-from-true, ltb-true, lt-ltb, cases-order, cases-bool, cases-lt}
+use Rattle.std.proofs.shelf.Tests.{false≢true, true≢false, or-cases, or-left, or-right, eqb-true, eq-eqb, and-parts, and-from, not-true, not-from-false, ltb-true, lt-ltb, cases-order}
 use Rattle.keeper.specs.Object.{Reading}
-use Rattle.keeper.specs.Readings.{anyOf, isOf, holder, precedes, copied, countsAt, taken, freePlace, ownPlace, placeFor, countsAs, piecesOf}
+use Rattle.keeper.specs.Readings.{isOf, holder, precedes, copied, countsAs, piecesOf}
 use Rattle.keeper.specs.Steps.{places}
 use Rattle.recovery.specs.Disk.{Slot, empty, holds, Site, Disk, slotAt, withReading, readPlaces, readDrives, readingsOf, isVersion, hasFrom, has}
 use Rattle.recovery.specs.Laws.{Distinct}
-use Rattle.recovery.proofs.Lists.{any-mem, mem-any, none-passes, any-none, mem-kept, kept-mem, map-mem, mem-map}
+use Rattle.recovery.proofs.Lists.{any-mem, mem-any, mem-kept, kept-mem, mem-map}
 
 -- The reading of a place.
 abbrev pub asRead : (d k v : ℕ) → List ℕ → Reading
@@ -28,13 +25,13 @@ pub record Read (S : Site) (D : Disk) (r : Reading) : Type 0 where
   pub isIn : D .out (r .drive) ≡ false
   pub slot : slotAt S D (r .drive) (r .place) ≡ holds (r .version) (r .piece)
 
-record OnDrive (S : Site) (D : Disk) (c d k : ℕ) (r : Reading) : Type 0 where
-  drive : r .drive ≡ d
-  from : k ≤ r .place
-  below : r .place < k + c
-  slot : slotAt S D (r .drive) (r .place) ≡ holds (r .version) (r .piece)
+pub record OnDrive (S : Site) (D : Disk) (c d k : ℕ) (r : Reading) : Type 0 where
+  pub drive : r .drive ≡ d
+  pub from : k ≤ r .place
+  pub below : r .place < k + c
+  pub slot : slotAt S D (r .drive) (r .place) ≡ holds (r .version) (r .piece)
 
-mem-places : (S : Site) (D : Disk) (c d k : ℕ) {r : Reading} → List·Memᴰ r (readPlaces S D c d k) → OnDrive S D c d k r
+pub mem-places : (S : Site) (D : Disk) (c d k : ℕ) {r : Reading} → List·Memᴰ r (readPlaces S D c d k) → OnDrive S D c d k r
 unfolding readPlaces
 mem-places S D zero d k m = absurd (List·Memᴰ·not-nil m)
 mem-places S D (suc n) d k {r} m = go (slotAt S D d k) refl m (mem-places S D n d (suc k))
@@ -73,14 +70,14 @@ places-mem S D (suc n) d k x v p h a b = go (cases-order k x) (places-mem S D n 
     go (inr (inl l)) f = further (slotAt S D d k) (f (omega arith) (omega arith))
     go (inr (inr l)) f = absurd (omega arith)
 
-record OnDrives (S : Site) (D : Disk) (c d : ℕ) (r : Reading) : Type 0 where
-  from : d ≤ r .drive
-  below : r .drive < d + c
-  low : r .place < 4
-  isIn : D .out (r .drive) ≡ false
-  slot : slotAt S D (r .drive) (r .place) ≡ holds (r .version) (r .piece)
+pub record OnDrives (S : Site) (D : Disk) (c d : ℕ) (r : Reading) : Type 0 where
+  pub from : d ≤ r .drive
+  pub below : r .drive < d + c
+  pub low : r .place < 4
+  pub isIn : D .out (r .drive) ≡ false
+  pub slot : slotAt S D (r .drive) (r .place) ≡ holds (r .version) (r .piece)
 
-mem-drives : (S : Site) (D : Disk) (c d : ℕ) {r : Reading} → List·Memᴰ r (readDrives S D c d) → OnDrives S D c d r
+pub mem-drives : (S : Site) (D : Disk) (c d : ℕ) {r : Reading} → List·Memᴰ r (readDrives S D c d) → OnDrives S D c d r
 unfolding readDrives
 mem-drives S D zero d m = absurd (List·Memᴰ·not-nil m)
 mem-drives S D (suc n) d {r} m = go (D .out d) refl (List·Memᴰ·append-cases (cond (D .out d) [] (readPlaces S D places d 0)) m) (mem-drives S D n (suc d))

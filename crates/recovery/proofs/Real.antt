@@ -1,26 +1,21 @@
 -- The real codec and format keep the laws.
 use mathlib.Core.Path.{_≡_, refl, sym, ap, subst, _∙_}
-use mathlib.Core.List.{List, [], _∷_, _++_, map, List·Memᴰ, List·Memᴰ·head, List·Memᴰ·tail}
-use Prim.Native.Nat.{ℕ, zero, suc, _+_, _-_, _*_, _/_, _^_, _≤_, _<_}
+use mathlib.Core.List.{List, [], _∷_, map, List·Memᴰ, List·Memᴰ·head, List·Memᴰ·tail}
+use Prim.Native.Nat.{ℕ, _+_, _-_, _*_, _/_, _≤_, _<_}
 use native.Mathlib.Nat.{mul-le-mul-left, div-lt-iff-lt-mul}
 use native.Mathlib.Omega.{arith}
-use lib.Dec.{lit≤}
 use lib.ListN.{length, drop}
 use Rattle.std.specs.shelf.Lists.{All}
 use Rattle.std.proofs.shelf.Lists.{length-map}
-use Rattle.std.specs.declared.option.Option.the-variants.{Some, None}
-use Rattle.elimination.specs.Polynomial.{Bytes}
+use Rattle.std.specs.declared.option.Option.the-variants.{Some}
 use Rattle.elimination.specs.Polynomial.{Distinct as Apart}
 use Rattle.pieces.specs.Rows.{LAST, rowsFor, framed, pieceOf}
 use Rattle.pieces.proofs.Values.{length-values}
 use Rattle.slots.specs.Layout.{recordOf, pieceRoom}
-use Rattle.slots.specs.Slot.{readSlot, cleared}
 use Rattle.slots.proofs.Standing.{reads-written, cleared-reads-empty}
-use Rattle.keeper.specs.Real.{onDrives, parts, Fits, WorkOut, WorksOut, codecOf}
-use Rattle.recovery.specs.Disk.{holds, Site}
-use Rattle.recovery.specs.Laws.{Content, Distinct, Laws, piecesOn}
-use Rattle.recovery.specs.Real.{readAs, realSite, Numbers, RealLaws, realDepot, RealSafety, Real}
-use Rattle.recovery.specs.Store.{Store, Runs, EachObject}
+use Rattle.keeper.specs.Real.{onDrives, parts, WorkOut, codecOf}
+use Rattle.recovery.specs.Laws.{Content, Distinct, piecesOn}
+use Rattle.recovery.specs.Real.{readAs, RealLaws, realDepot, RealSafety, Real}
 use Rattle.recovery.proofs.Store.{store-safety}
 
 -- A piece isn't longer than a slot has room for.

@@ -1,24 +1,24 @@
 -- Every event keeps the invariant, and so does every run.
 use mathlib.Core.Path.{_≡_, refl, sym, ap, subst, _∙_}
-use mathlib.Core.Logic.{_⊎_, inl, inr}
-use mathlib.Core.Bool.{Bool, true, false, cond, _&&_, _||_, not}
+use mathlib.Core.Logic.{inl, inr}
+use mathlib.Core.Bool.{Bool, true, false, cond}
 use mathlib.Core.List.{List, [], _∷_, List·Memᴰ, List·Memᴰ·not-nil}
-use Prim.Native.Nat.{ℕ, zero, suc, _+_, _≤_, _<_}
+use Prim.Native.Nat.{ℕ, zero, suc, _≤_, _<_}
 use native.Mathlib.Omega.{arith}
-use lib.Dec.{eqb, ltb, leb}
+use lib.Dec.{eqb}
 use Rattle.std.specs.declared.option.Option.{Option}
 use Rattle.std.specs.declared.option.Option.the-variants.{Some, None}
-use Rattle.std.proofs.shelf.Tests.{false≢true, true≢false, eqb-true, eqb-false}
+use Rattle.std.proofs.shelf.Tests.{eqb-true}
 use Rattle.keeper.specs.Object.{Knowledge, unsure, counts, writing, State, Act, replaceFile}
-use Rattle.recovery.specs.Disk.{Slot, empty, holds, Site, Disk, slotAt, hasFrom, howMany, without, bearing, cut, MayCut, OnceBegun}
+use Rattle.recovery.specs.Disk.{Site, Disk, hasFrom, without, bearing, cut, MayCut, OnceBegun}
 use Rattle.recovery.specs.Laws.{Laws}
-use Rattle.recovery.specs.World.{Past, World, Call, outcomeOf, weak, Bearable}
-use Rattle.recovery.specs.Events.{Given, Event, step, cutShort, stop, breaksOff, forgets, others, failing, goesOut, returns, comingUp, stopped, forgotten, after, MayMove, May, First, Run, first, then}
-use Rattle.recovery.specs.Promise.{Fresh, Own, Sequel}
-use Rattle.recovery.proofs.Invariant.{Right, Sound, Used, Writing, Knowing, LastIsBar, Consistent, Filed, Inv}
-use Rattle.recovery.proofs.Acts.{Strong, strong, not-weak, Keeps, refiled, Goes, stays, cut-goes}
+use Rattle.recovery.specs.World.{Past, World, outcomeOf, weak, Bearable}
+use Rattle.recovery.specs.Events.{Event, step, cutShort, stop, breaksOff, forgets, others, failing, goesOut, returns, comingUp, stopped, forgotten, after, May, First, Run, first, then}
+use Rattle.recovery.specs.Promise.{Fresh, Sequel}
+use Rattle.recovery.proofs.Invariant.{Sound, Used, Knowing, Consistent, Filed, Inv}
+use Rattle.recovery.proofs.Acts.{strong, not-weak, Keeps, stays, cut-goes}
 use Rattle.recovery.proofs.Work.{none-some}
-use Rattle.recovery.proofs.Well.{bearable-kept, OneFile, Mild, WellDone, unsure-consistent, Leads}
+use Rattle.recovery.proofs.Well.{bearable-kept, Mild, unsure-consistent, Leads}
 use Rattle.recovery.proofs.Steps.{step-well}
 
 pub record Happens (S : Site) (w : World) (e : Event) : Type 0 where

@@ -1,33 +1,33 @@
 -- What the invariant says in the words of the promises.
-use mathlib.Core.Path.{_≡_, refl, sym, ap, subst, _∙_}
-use mathlib.Core.Logic.{_⊎_, inl, inr}
-use mathlib.Core.Bool.{Bool, true, false, cond, _&&_, _||_, not}
-use mathlib.Core.List.{List, [], _∷_, map, List·Memᴰ, List·Memᴰ·head, List·Memᴰ·not-nil}
-use Prim.Native.Nat.{ℕ, zero, suc, _+_, _≤_, _<_}
+use mathlib.Core.Path.{_≡_, refl, sym, subst, _∙_}
+use mathlib.Core.Logic.{inl, inr}
+use mathlib.Core.Bool.{Bool, true, false, cond, _&&_, not}
+use mathlib.Core.List.{List, [], _∷_, map, List·Memᴰ, List·Memᴰ·head}
+use Prim.Native.Nat.{ℕ, _≤_, _<_}
 use native.Mathlib.Omega.{arith}
 use lib.Dec.{eqb, ltb, leb}
 use lib.ListN.{length, take}
 use Rattle.std.specs.declared.option.Option.{Option}
 use Rattle.std.specs.declared.option.Option.the-variants.{Some, None}
-use Rattle.std.proofs.shelf.Tests.{false≢true, true≢false, eqb-true, eqb-false, ne-eqb, leb-true, not-true, not-from-false, and-from}
-use Rattle.keeper.specs.Object.{Knowledge, unsure, counts, writing, Reading, State, Codec, Setup, Outcome, has as told, isVersion as numbered, refused, none, replaceFile}
+use Rattle.std.proofs.shelf.Tests.{ne-eqb, leb-true, not-true, not-from-false, and-from}
+use Rattle.keeper.specs.Object.{Knowledge, unsure, counts, writing, Reading, Codec, Setup, Outcome, has as told, isVersion as numbered, refused, none, replaceFile}
 use Rattle.keeper.specs.Readings.{piecesOf, given, contentOf, allHave, howManyIn}
 use Rattle.keeper.specs.Steps
-use Rattle.keeper.specs.Steps.{highest, Found}
+use Rattle.keeper.specs.Steps.{highest}
 use Rattle.keeper.specs.declared.refusal.Refusal.{Refusal}
 use Rattle.keeper.specs.declared.refusal.Refusal.the-variants.{TooLong, NoMoreVersions, NotEverywhere, TooFewIn}
-use Rattle.recovery.specs.Disk.{Site, Disk, slotAt, readingsOf, has, howMany}
+use Rattle.recovery.specs.Disk.{Site, has, howMany}
 use Rattle.recovery.specs.Laws.{Laws, Content}
-use Rattle.recovery.specs.World.{Past, World, LastFinished, setup, outcomeOf, using′, noted, weak}
+use Rattle.recovery.specs.World.{World, LastFinished, setup, outcomeOf, using′, noted, weak}
 use Rattle.recovery.specs.World
-use Rattle.recovery.specs.Events.{Event, stepped, May, Run}
-use Rattle.recovery.specs.Promise.{Recovers, OneVersion, BelowNext, Safe, Safety, Onward, IsHighest, TakesHighest}
+use Rattle.recovery.specs.Events.{stepped}
+use Rattle.recovery.specs.Promise.{OneVersion, Safe, Safety, Onward, TakesHighest}
 use Rattle.recovery.proofs.Lists.{howMany-mono, howMany-not, mem-take}
-use Rattle.recovery.proofs.Readings.{mem-pieces, holding-has, Holding}
-use Rattle.recovery.proofs.Invariant.{Right, LastIsBar, Used, Knowing, Inv, readings, isIn, workedOut}
-use Rattle.recovery.proofs.Acts.{Strong, strong}
-use Rattle.recovery.proofs.Work.{any-work, works-out, worked, pieces-enough, reading-right, some-same, none-some}
-use Rattle.recovery.proofs.Highest.{Good, AllGood, AtLeast, highest-good, highest-covers}
+use Rattle.recovery.proofs.Readings.{mem-pieces, holding-has}
+use Rattle.recovery.proofs.Invariant.{LastIsBar, Knowing, Inv, readings, isIn, workedOut}
+use Rattle.recovery.proofs.Acts.{strong}
+use Rattle.recovery.proofs.Work.{any-work, works-out, worked, pieces-enough, reading-right, none-some}
+use Rattle.recovery.proofs.Highest.{AllGood, AtLeast, highest-good, highest-covers}
 use Rattle.recovery.proofs.Well.{unless-elim, using-new}
 use Rattle.recovery.proofs.Runs.{happens, run-inv}
 

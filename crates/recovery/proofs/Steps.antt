@@ -2,7 +2,7 @@
 use mathlib.Core.Path.{_≡_, refl, sym, ap, subst, _∙_}
 use mathlib.Core.Logic.{_⊎_, inl, inr}
 use mathlib.Core.Bool.{Bool, true, false, cond, _&&_, _||_, not}
-use mathlib.Core.List.{List, [], _∷_, _++_, map, List·Memᴰ, List·Memᴰ·head, List·Memᴰ·tail, List·Memᴰ·not-nil, List·Memᴰ·cases-cons}
+use mathlib.Core.List.{List, [], _∷_, _++_, List·Memᴰ, List·Memᴰ·head, List·Memᴰ·tail, List·Memᴰ·not-nil}
 use Prim.Native.Nat.{ℕ, zero, suc, _+_, _≤_, _<_}
 use native.Mathlib.Omega.{arith}
 use lib.Dec.{eqb, ltb, leb}
@@ -11,26 +11,24 @@ use Rattle.std.specs.shelf.Lists.{kept-by}
 use Rattle.std.specs.declared.option.Option.{Option}
 use Rattle.std.specs.declared.option.Option.the-variants.{Some, None}
 use Rattle.std.proofs.shelf.Lists.{append-nil}
-use Rattle.std.proofs.shelf.Tests.{false≢true, true≢false, eqb-true, eqb-false, eq-eqb, ne-eqb, leb-true, leb-false, ltb-true, ltb-false, not-true, not-false, not-from-false, and-parts, or-parts, or-cases, cases-eq}
-use Rattle.keeper.specs.Object.{Knowledge, unsure, counts, writing, Reading, Act, writeSlot, clearSlot, replaceFile, Reply, refused, done, isVersion, has, none, removed, mended, found, unknown, State, Outcome, refuse}
-use Rattle.keeper.specs.Readings.{holder, placeFor, contentOf, clears, howManyIn, allHave, freePlace, ownPlace}
+use Rattle.std.proofs.shelf.Tests.{true≢false, eqb-false, leb-false, ltb-true, ltb-false, not-true, not-false, not-from-false, and-parts, or-parts, or-cases, cases-eq}
+use Rattle.keeper.specs.Object.{Knowledge, unsure, counts, writing, Reading, writeSlot, replaceFile, Reply, refused, done, isVersion, has, none, removed, mended, Outcome}
+use Rattle.keeper.specs.Readings.{holder, placeFor, clears, howManyIn, allHave, freePlace, ownPlace}
 use Rattle.keeper.specs.Steps
-use Rattle.keeper.specs.Steps.{Found, places, longest, lastNumber, raised, reserve, writingOn, unless, counting, forget, highest}
-use Rattle.keeper.specs.declared.refusal.Refusal.{Refusal}
+use Rattle.keeper.specs.Steps.{Found, places, longest, lastNumber, raised, reserve, writingOn, unless, counting, highest}
 use Rattle.keeper.specs.declared.refusal.Refusal.the-variants.{NoSuch, TooLong, Unsure, BeingWritten, NotBeingWritten, NotUnsure, DriveOut, NoPlace, NotEverywhere, TooFewIn, TooFewPieces, CountsNone, NoMoreVersions}
-use Rattle.recovery.specs.Disk.{Slot, empty, holds, Site, Disk, slotAt, readingsOf, howMany, filing, performAll}
+use Rattle.recovery.specs.Disk.{holds, Site, Disk, slotAt, readingsOf, howMany, filing, performAll}
 use Rattle.recovery.specs.Laws.{Content, Laws}
-use Rattle.recovery.specs.World.{Past, World, Call, begin, write, finish, read, tidy, sweep, mend, giveUp, settle, setup, outcomeOf, LastFinished, Backed, using′, noted, weak, Bearable}
-use Rattle.recovery.specs.Events.{Given, carriedOut}
-use Rattle.recovery.specs.Promise.{NewLast, NothingOlder, Fresh}
+use Rattle.recovery.specs.World.{Past, World, Call, begin, write, finish, read, tidy, sweep, mend, giveUp, settle, setup, outcomeOf, Backed, using′, weak}
+use Rattle.recovery.specs.Events.{Given}
 use Rattle.recovery.proofs.Lists.{howMany-mono, howMany-not, mem-kept}
-use Rattle.recovery.proofs.Readings.{Read, mem-read, Holding, holder-holding, has-holding}
-use Rattle.recovery.proofs.Invariant.{Right, Sound, Used, Writing, Knowing, LastIsBar, Consistent, Filed, Inv, readings, isIn, workedOut, best}
-use Rattle.recovery.proofs.Acts.{Strong, strong, not-weak, Keeps, refiled, NotLast, Spare, Clears, AllGentle, Goes, clears-gentle}
-use Rattle.recovery.proofs.Work.{some-same, none-some, works-out, worked, pieces-enough, Worked}
+use Rattle.recovery.proofs.Readings.{mem-read, holder-holding}
+use Rattle.recovery.proofs.Invariant.{Used, Writing, Knowing, LastIsBar, Inv, readings, isIn, workedOut, best}
+use Rattle.recovery.proofs.Acts.{Strong, not-weak, Keeps, refiled, NotLast, Spare, Clears, AllGentle, clears-gentle}
+use Rattle.recovery.proofs.Work.{works-out, worked, pieces-enough}
 use Rattle.recovery.proofs.Highest.{Good, AllGood, AtLeast, highest-good, highest-covers}
 use Rattle.recovery.proofs.Places.{free-place, free-spare, place-spare}
-use Rattle.recovery.proofs.Well.{bearable-kept, OneFile, Mild, WellDone, Well, using-old, unsure-consistent, unless-elim, raised-above, acting, idle, reserved, starting, Gently, Leads}
+use Rattle.recovery.proofs.Well.{bearable-kept, Well, using-old, unsure-consistent, unless-elim, raised-above, acting, idle, reserved, starting, Gently, Leads}
 
 -- What the tests of finish say.
 all-have : (n : ℕ) (isIn : ℕ → Bool) (v : ℕ) (rs : List Reading) → allHave n isIn v rs ≡ true → (d : ℕ) → d < n → isIn d ≡ true → holder d v rs ≡ true

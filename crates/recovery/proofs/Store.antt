@@ -1,23 +1,21 @@
 -- A run of a store, seen from one object, is a run of that object.
 use mathlib.Core.Path.{_≡_, refl, sym, ap, subst, _∙_}
-use mathlib.Core.Logic.{_⊎_, inl, inr}
-use mathlib.Core.Bool.{Bool, true, false, cond}
+use mathlib.Core.Logic.{inl, inr}
+use mathlib.Core.Bool.{Bool, cond}
 use mathlib.Core.List.{List, [], _∷_}
-use Prim.Native.Nat.{ℕ, zero, suc, _≤_, _<_}
+use Prim.Native.Nat.{ℕ, zero, suc, _<_}
 use native.Mathlib.Omega.{arith}
-use lib.Dec.{eqb}
 use Rattle.std.specs.declared.option.Option.{Option}
 use Rattle.std.specs.declared.option.Option.the-variants.{Some, None}
 use Rattle.std.proofs.shelf.Tests.{eq-eqb, ne-eqb, cases-eq}
 use Rattle.keeper.specs.Object.{Act, writeSlot, clearSlot, replaceFile}
-use Rattle.recovery.specs.Disk.{Site, Disk, perform, performAll, tear, cut, MayCut, without}
+use Rattle.recovery.specs.Disk.{Site, Disk, perform, performAll, tear, cut, without}
 use Rattle.recovery.specs.Laws.{Laws}
 use Rattle.recovery.specs.World.{World, Call, outcomeOf, Bearable}
 use Rattle.recovery.specs.Events
 use Rattle.recovery.specs.Events.{Given, stepped, onDisk, forgotten, stopped, moved, MayMove, Run, then}
 use Rattle.recovery.specs.Store
-use Rattle.recovery.specs.Store.{Depot, siteOf, Part, Store, seenBy, seen, partOf, putting, comingUpAll, withoutDrive, cutting, EachObject, StoreSafety, Runs, MayCutAt}
-use Rattle.recovery.proofs.Invariant.{Inv}
+use Rattle.recovery.specs.Store.{Depot, siteOf, Store, seenBy, seen, partOf, putting, comingUpAll, withoutDrive, cutting, StoreSafety, Runs, MayCutAt}
 use Rattle.recovery.proofs.Steps.{step-well}
 use Rattle.recovery.proofs.Runs.{cut-mild, happens, run-inv}
 use Rattle.recovery.proofs.Safe.{safe}

@@ -1,25 +1,25 @@
 -- What it means that a step is well done, and the kinds of steps: one that only acts gently, and one that begins a new version.
-use mathlib.Core.Path.{_≡_, refl, sym, ap, subst, _∙_}
+use mathlib.Core.Path.{_≡_, refl, sym, subst, _∙_}
 use mathlib.Core.Logic.{_⊎_, inl, inr}
-use mathlib.Core.Bool.{Bool, true, false, cond, _&&_, _||_, not}
-use mathlib.Core.List.{List, [], _∷_, _++_, map, List·Memᴰ, List·Memᴰ·head, List·Memᴰ·tail, List·Memᴰ·not-nil, List·Memᴰ·cases-cons}
-use Prim.Native.Nat.{ℕ, zero, suc, _+_, _≤_, _<_}
+use mathlib.Core.Bool.{Bool, true, false, cond}
+use mathlib.Core.List.{List, [], _∷_, _++_, List·Memᴰ}
+use Prim.Native.Nat.{ℕ, _+_, _≤_, _<_}
 use native.Mathlib.Omega.{arith}
-use lib.Dec.{eqb, ltb, leb}
+use lib.Dec.{eqb, leb}
 use Rattle.std.specs.declared.option.Option.{Option}
-use Rattle.std.specs.declared.option.Option.the-variants.{Some, None}
-use Rattle.std.proofs.shelf.Tests.{false≢true, true≢false, eqb-true, eqb-false, eq-eqb, ne-eqb, leb-true, leb-false, not-true, not-false, cases-eq}
-use Rattle.keeper.specs.Object.{Knowledge, unsure, counts, writing, Reading, Act, writeSlot, clearSlot, replaceFile, Reply, State, Outcome, refuse}
+use Rattle.std.specs.declared.option.Option.the-variants.{Some}
+use Rattle.std.proofs.shelf.Tests.{true≢false, eqb-true, eq-eqb, ne-eqb, leb-false}
+use Rattle.keeper.specs.Object.{Knowledge, unsure, counts, writing, Act, replaceFile, Reply, State, Outcome, refuse}
 use Rattle.keeper.specs.Steps.{lastNumber, stride, raised, reserve, writingOn, forget, unless}
 use Rattle.keeper.specs.declared.refusal.Refusal.{Refusal}
-use Rattle.recovery.specs.Disk.{Site, Disk, howMany, filing, performAll, cut, MayCut}
+use Rattle.recovery.specs.Disk.{Site, Disk, howMany, filing, performAll}
 use Rattle.recovery.specs.Laws.{Content, Laws}
-use Rattle.recovery.specs.World.{Past, World, LastFinished, Backed, using′, noted, weak, Bearable}
+use Rattle.recovery.specs.World.{Past, World, Backed, using′, noted, weak}
 use Rattle.recovery.specs.Events.{carriedOut}
-use Rattle.recovery.specs.Promise.{NewLast, NothingOlder, Fresh}
+use Rattle.recovery.specs.Promise.{NothingOlder, Fresh}
 use Rattle.recovery.proofs.Lists.{howMany-mono}
-use Rattle.recovery.proofs.Invariant.{Right, Sound, Used, Writing, LastIsBar, Consistent, Filed, Inv}
-use Rattle.recovery.proofs.Acts.{Strong, strong, not-weak, Keeps, refiled, Files, AllGentle, Goes, stays, all-go, cut-goes}
+use Rattle.recovery.proofs.Invariant.{Right, Used, Consistent, Inv}
+use Rattle.recovery.proofs.Acts.{strong, not-weak, Keeps, refiled, AllGentle, Goes, all-go}
 
 -- No more drives are weak where none has become so.
 pub bearable-kept : (S : Site) (D : Disk) (last : ℕ) (D′ : Disk) (last′ : ℕ) → Keeps S D last D′ last′ → howMany (S .drives) (weak S D last) + S .need ≤ S .drives → howMany (S .drives) (weak S D′ last′) + S .need ≤ S .drives

@@ -1,23 +1,23 @@
 -- What working out gives: the content of a used version, of which enough pieces are in, and nothing else.
 use mathlib.Core.Path.{_≡_, refl, sym, ap, subst, _∙_}
-use mathlib.Core.Logic.{_⊎_, inl, inr}
-use mathlib.Core.Bool.{Bool, true, false, cond, _&&_, _||_, not}
-use mathlib.Core.List.{List, [], _∷_, _++_, map, List·Memᴰ, List·Memᴰ·head, List·Memᴰ·tail, List·Memᴰ·not-nil, List·Memᴰ·cases-cons}
-use Prim.Native.Nat.{ℕ, zero, suc, _+_, _≤_, _<_}
+use mathlib.Core.Logic.{inl, inr}
+use mathlib.Core.Bool.{Bool, true, false, cond, not}
+use mathlib.Core.List.{List, [], _∷_, map, List·Memᴰ, List·Memᴰ·head, List·Memᴰ·tail}
+use Prim.Native.Nat.{ℕ, _+_, _≤_, _<_}
 use native.Mathlib.Omega.{arith}
-use lib.Dec.{eqb, ltb, leb}
+use lib.Dec.{eqb, leb}
 use lib.ListN.{length, take}
 use Rattle.std.specs.declared.option.Option.{Option}
 use Rattle.std.specs.declared.option.Option.the-variants.{Some, None}
-use Rattle.std.proofs.shelf.Tests.{false≢true, true≢false, eqb-true, eqb-false, eq-eqb, leb-true, le-leb, not-true, not-false}
+use Rattle.std.proofs.shelf.Tests.{eq-eqb, leb-true, le-leb, not-true}
 use Rattle.std.proofs.shelf.Lists.{take-map, length-map, length-take-le}
-use Rattle.keeper.specs.Object.{Reading, Codec, Setup}
-use Rattle.keeper.specs.Readings.{anyOf, copied, piecesOf, given, contentOf}
-use Rattle.recovery.specs.Disk.{Slot, empty, holds, Site, Disk, slotAt, readingsOf, has, howMany}
+use Rattle.keeper.specs.Object.{Reading, Codec}
+use Rattle.keeper.specs.Readings.{anyOf, piecesOf, given, contentOf}
+use Rattle.recovery.specs.Disk.{Site, Disk, readingsOf, has, howMany}
 use Rattle.recovery.specs.Laws.{Content, Laws, Distinct, piecesOn}
 use Rattle.recovery.specs.World.{setup, weak}
 use Rattle.recovery.proofs.Lists.{any-mem, mem-take, mem-map, distinct-take, howMany-mono, howMany-not, howMany-keys}
-use Rattle.recovery.proofs.Readings.{Read, mem-read, readings-ordered, mem-pieces, pieces-mem, pieces-apart, Original, original, Holding, holding-mem, asRead}
+use Rattle.recovery.proofs.Readings.{mem-read, readings-ordered, mem-pieces, pieces-mem, pieces-apart, Original, original, holding-mem, asRead}
 use Rattle.recovery.proofs.Invariant.{Right, Sound, right-slot}
 use Rattle.recovery.proofs.Acts.{Strong, strong}
 

@@ -1,5 +1,5 @@
 -- The runs of keepers that go wrong, played out.
-use mathlib.Core.Path.{_≡_, refl}
+use mathlib.Core.Path.{refl}
 use lib.Dec.{lit≤}
 use Rattle.recovery.specs.Wrong.{moves, AllFair, SameNumber, BelowBar, NumberAgain, NoBar, WrongTurns}
 use Rattle.recovery.proofs.Example.{small, playing}

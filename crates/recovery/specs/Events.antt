@@ -1,16 +1,16 @@
 -- What can happen to an object: the keeper's own steps, whole or cut by a stop, and what the world does; and the runs that are made of such events.
 -- Assumes nothing: what is asked of the world is a premise of each of its events, and what is trusted of torn places is `OnceBegun` alone.
 use mathlib.Core.Path.{_≡_}
-use mathlib.Core.Bool.{Bool, true, false, cond}
-use mathlib.Core.List.{List, [], _∷_, List·Memᴰ}
+use mathlib.Core.Bool.{cond}
+use mathlib.Core.List.{List, [], List·Memᴰ}
 use Prim.Native.Nat.{ℕ, _≤_, _<_}
 use lib.Dec.{eqb}
 use Rattle.std.specs.declared.option.Option.{Option}
-use Rattle.std.specs.declared.option.Option.the-variants.{Some, None}
-use Rattle.keeper.specs.Object.{Knowledge, unsure, counts, writing, State, Outcome}
+use Rattle.std.specs.declared.option.Option.the-variants.{None}
+use Rattle.keeper.specs.Object.{Knowledge, unsure, counts, State, Outcome}
 use Rattle.keeper.specs.Steps.{forget}
-use Rattle.recovery.specs.Disk.{Slot, empty, Site, Disk, slotAt, performAll, cut, MayCut, without, bearing, OnceBegun}
-use Rattle.recovery.specs.World.{Past, World, Call, begin, write, finish, read, tidy, sweep, mend, giveUp, settle, outcomeOf, noted, Bearable}
+use Rattle.recovery.specs.Disk.{empty, Site, Disk, slotAt, performAll, cut, MayCut, without, bearing, OnceBegun}
+use Rattle.recovery.specs.World.{World, Call, begin, write, finish, read, tidy, sweep, mend, giveUp, settle, outcomeOf, noted, Bearable}
 
 -- What comes from outside in a call are bytes.
 abbrev pub Given : Call → Type 0

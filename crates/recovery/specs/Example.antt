@@ -6,8 +6,8 @@ use mathlib.Core.List.{List, [], _∷_}
 use Prim.Native.Nat.{ℕ}
 use Rattle.std.specs.declared.option.Option.{Option}
 use Rattle.std.specs.declared.option.Option.the-variants.{Some, None}
-use Rattle.keeper.specs.Object.{Codec, has as told}
-use Rattle.recovery.specs.Disk.{Slot, empty, holds, Format, Site}
+use Rattle.keeper.specs.Object.{has as told}
+use Rattle.recovery.specs.Disk.{Slot, empty, holds, Site}
 use Rattle.recovery.specs.Laws.{Laws}
 use Rattle.recovery.specs.World.{World, begin, write, finish, read, settle, outcomeOf}
 use Rattle.recovery.specs.Events.{firstState, Event, step, cutShort, stop, breaksOff, forgets, others, failing, goesOut, returns, after, Run}

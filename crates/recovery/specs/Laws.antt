@@ -2,13 +2,12 @@
 -- Assumes nothing: the laws are a premise of the theorems.
 use mathlib.Core.Path.{_≡_}
 use mathlib.Core.List.{List, [], _∷_, map, List·Memᴰ}
-use Prim.Native.Nat.{ℕ, _≤_, _<_, _^_}
+use Prim.Native.Nat.{ℕ, _≤_, _<_}
 use lib.ListN.{length}
-use Rattle.std.specs.declared.option.Option.{Option}
-use Rattle.std.specs.declared.option.Option.the-variants.{Some, None}
+use Rattle.std.specs.declared.option.Option.the-variants.{Some}
 use Rattle.keeper.specs.Object.{Codec}
 use Rattle.keeper.specs.Steps.{longest, lastNumber}
-use Rattle.recovery.specs.Disk.{Slot, empty, holds, Format, Site}
+use Rattle.recovery.specs.Disk.{empty, holds, Site}
 
 -- A content that an object can have: bytes, and not more than an object may have.
 pub record Content (c : List ℕ) : Type 0 where

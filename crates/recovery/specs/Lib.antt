@@ -8,3 +8,4 @@ pub mod Store
 pub mod Example
 pub mod Wrong
 pub mod Real
+pub mod Needed

@@ -2,7 +2,7 @@
 -- keeper's own steps alone, whatever was broken off and whatever came back, as long as version numbers last.
 -- Assumes nothing: it is for every codec and format that keep their laws.
 use mathlib.Core.Path.{_≡_}
-use mathlib.Core.Bool.{Bool, true, false}
+use mathlib.Core.Bool.{true, false}
 use Prim.Native.Nat.{ℕ, _≤_, _<_}
 use Rattle.keeper.specs.Object.{unsure, counts}
 use Rattle.keeper.specs.Steps.{lastNumber}

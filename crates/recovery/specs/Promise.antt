@@ -3,11 +3,10 @@
 -- Assumes nothing: each promise is for every codec and format that keep their laws.
 use mathlib.Core.Path.{_≡_}
 use mathlib.Core.Logic.{_⊎_}
-use mathlib.Core.Bool.{Bool, true, false, _&&_, not}
+use mathlib.Core.Bool.{false, _&&_, not}
 use mathlib.Core.List.{List, [], map, List·Memᴰ}
 use Prim.Native.Nat.{ℕ, _≤_, _<_}
 use lib.ListN.{length, take}
-use Rattle.std.specs.declared.option.Option.{Option}
 use Rattle.std.specs.declared.option.Option.the-variants.{Some, None}
 use Rattle.keeper.specs.Object.{counts, Reading, Codec, Setup, has as told, isVersion as numbered}
 use Rattle.keeper.specs.Readings.{piecesOf, given, contentOf}

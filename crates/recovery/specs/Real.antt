@@ -1,7 +1,7 @@
 -- The codec and the format that the code works by keep the laws: records lie in slots as the code lays and reads them, and pieces are values of polynomials.
 -- So all promises hold of the code's own steps.
 -- Assumes nothing: what working out is, is a premise, `WorksOut`, which the crate `codec` meets.
-use mathlib.Core.List.{List, _++_}
+use mathlib.Core.List.{_++_}
 use Prim.Native.Nat.{ℕ, _≤_, _<_}
 use lib.ListN.{length, drop}
 use Rattle.slots.specs.Slot.{readSlot, cleared}

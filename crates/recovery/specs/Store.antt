@@ -1,10 +1,9 @@
 -- A store of many objects: they share the next version's number, the file's number and which drives are in, and nothing else. What happens to the store,
 -- seen from one object, is what happens to that object, other objects only moving numbers up.
 -- Assumes nothing: what is asked of the world is a premise of each of its events, for each object.
-use mathlib.Core.Path.{_≡_}
 use mathlib.Core.Bool.{Bool, true, false, cond}
 use mathlib.Core.List.{List}
-use Prim.Native.Nat.{ℕ, _≤_, _<_}
+use Prim.Native.Nat.{ℕ, _<_}
 use lib.Dec.{eqb}
 use Rattle.std.specs.declared.option.Option.{Option}
 use Rattle.keeper.specs.Object.{Knowledge, Codec}

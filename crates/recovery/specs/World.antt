@@ -2,13 +2,13 @@
 -- Assumes nothing.
 use mathlib.Core.Path.{_≡_}
 use mathlib.Core.Logic.{_⊎_}
-use mathlib.Core.Bool.{Bool, true, false, cond, _&&_, _||_, not}
+use mathlib.Core.Bool.{Bool, cond, _&&_, _||_, not}
 use mathlib.Core.List.{List, [], _∷_, List·Memᴰ}
 use Prim.Native.Nat.{ℕ, _+_, _≤_}
 use lib.Dec.{eqb}
 use Rattle.std.specs.declared.option.Option.{Option}
-use Rattle.std.specs.declared.option.Option.the-variants.{Some, None}
-use Rattle.keeper.specs.Object.{Knowledge, unsure, counts, writing, Reading, State, Outcome, Setup}
+use Rattle.std.specs.declared.option.Option.the-variants.{Some}
+use Rattle.keeper.specs.Object.{Knowledge, unsure, counts, writing, State, Outcome, Setup}
 use Rattle.keeper.specs.Steps
 use Rattle.recovery.specs.Disk.{Site, Disk, has, howMany, readingsOf}
 

@@ -1,7 +1,7 @@
 -- What would go wrong with a keeper that did one thing otherwise, each with a run in which the world does nothing that it must not do.
 -- Assumes nothing.
 use mathlib.Core.Path.{_≡_}
-use mathlib.Core.Bool.{_||_, not, cond, true, false}
+use mathlib.Core.Bool.{not}
 use mathlib.Core.List.{List, [], _∷_, _++_}
 use Prim.Native.Nat.{ℕ, _-_}
 use lib.Dec.{eqb}

@@ -5,6 +5,7 @@ ghost use Rattle.recovery.specs.Store.{StoreSafety};
 ghost use Rattle.recovery.specs.Example.{Example};
 ghost use Rattle.recovery.specs.Wrong.{WrongTurns};
 ghost use Rattle.recovery.specs.Real.{Real};
+ghost use Rattle.recovery.specs.Needed.{FewSuffice};
 
 // After every run the version last finished can be worked out, what a read answers is its content, and nothing is worked out of pieces of two versions.
 pub fn safety_stands() -> u8
@@ -59,6 +60,13 @@ pub fn real_stands() -> u8
 // comes up with the number last used.
 pub fn wrong_turns_stand() -> u8
     ensures { λ _. ⌜ WrongTurns ⌝ }
+{
+    0
+}
+
+// A step comes out the same over the few pieces that it has to read.
+pub fn few_suffice() -> u8
+    ensures { λ _. ⌜ FewSuffice ⌝ }
 {
     0
 }
