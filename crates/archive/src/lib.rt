@@ -14,5 +14,6 @@ pub use count::KeptDisplay;
 pub use disks::Disks;
 pub use fault::Fault;
 pub use fault::FaultDisplay;
+pub use fault::FaultFromAlloc;
 pub use reply::Reply;
 pub use reply::ReplyDisplay;

@@ -63,7 +63,8 @@ fits-worked need ps c w =
       distinct = rw (drives-given ps) (w .sound .1);
       bytes = w .bytes;
       short = w .length-is;
-      pieces = rw (drives-given ps, parts-given ps) (w .pieces-are) }
+      pieces = rw (drives-given ps, parts-given ps) (w .pieces-are);
+    }
 
 all-made : (need : ℕ) (c : List ℕ) (ps : List Piece) → IsNeed need → length c ≤ MAX → All IsDrive (drives ps) → their-parts ps ≡ map (λ d. pieceOf need d c) (drives ps) → All (λ p. Made need (p .drive) c (vec-items (p .bytes))) ps
 all-made need c [] n l ds e = tt

@@ -32,13 +32,20 @@ fn is_named(rule: Rule, entry: &Entry) -> bool
 }
 
 // The effects, and then the taking away of every entry that the rule names, in their order.
-pub fn clears(effects: Vec<Effect>, entries: &[Entry], rule: Rule) -> Result<Vec<Effect>, AllocError>
+pub fn clears(
+    effects: Vec<Effect>,
+    entries: &[Entry],
+    rule: Rule,
+) -> Result<Vec<Effect>, AllocError>
     ensures { λ r. ⌜ made r (λ v. map actOf (vec-items v) ≡ map actOf (vec-items effects) ++ clears-of (names rule) (readingsOf (now (entries .entry)))) ⌝ }
 {
     let mut effects = effects;
     for entry in entries {
         if is_named(rule, entry) {
-            effects.push(Effect::Clear { drive: entry.drive, place: entry.place })?;
+            effects.push(Effect::Clear {
+                drive: entry.drive,
+                place: entry.place,
+            })?;
         }
     }
     Ok(effects)

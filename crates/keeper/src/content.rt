@@ -17,7 +17,14 @@ use std::alloc::AllocError;
 use std::alloc::Global;
 
 // The record of the piece that a drive has of these bytes.
-pub fn record_for(heap: Global, number: u8, need: u8, drive: u8, version: u64, bytes: &[u8]) -> Result<Vec<u8>, AllocError>
+pub fn record_for(
+    heap: Global,
+    number: u8,
+    need: u8,
+    drive: u8,
+    version: u64,
+    bytes: &[u8],
+) -> Result<Vec<u8>, AllocError>
     requires { ⌜ 0 < need ⌝ ∗ ⌜ need ≤ 31 ⌝ ∗ ⌜ drive ≤ 31 ⌝ ∗ ⌜ length (now bytes) ≤ 65536 ⌝ }
     ensures { λ r. ⌜ made r (λ v. vec-items v ≡ recordOf number drive version (pieceOf need drive (now (bytes .entry)))) ⌝ }
 {
@@ -51,14 +58,22 @@ fn pieces_of(heap: Global, entries: &[Entry], version: u64) -> Result<Vec<Piece>
     let mut chosen = Vec::new(heap);
     for entry in entries {
         if counts_as(entries, version, entry) {
-            chosen.push(Piece { drive: entry.drive, bytes: copied(heap, entry.piece.as_slice())? })?;
+            chosen.push(Piece {
+                drive: entry.drive,
+                bytes: copied(heap, entry.piece.as_slice())?,
+            })?;
         }
     }
     Ok(chosen)
 }
 
 // The bytes of a version, worked out of as many of its pieces as are needed; none where there are fewer, or where they don't work out.
-pub fn content_of(heap: Global, need: u8, entries: &[Entry], version: u64) -> Result<Option<Vec<u8>>, AllocError>
+pub fn content_of(
+    heap: Global,
+    need: u8,
+    entries: &[Entry],
+    version: u64,
+) -> Result<Option<Vec<u8>>, AllocError>
     requires { ⌜ 0 < need ⌝ ∗ ⌜ need ≤ 31 ⌝ }
     ensures { λ r. ⌜ made r (λ v. Worked need version (readingsOf (now (entries .entry))) v) ⌝ }
 {

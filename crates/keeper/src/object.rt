@@ -37,11 +37,21 @@ pub struct Entry {
 #[derive(Drop)]
 pub enum Effect {
     // these bytes go to the front of a place
-    Write { drive: u8, place: u8, bytes: Vec<u8> },
+    Write {
+        drive: u8,
+        place: u8,
+        bytes: Vec<u8>,
+    },
     // zeros go over the whole record in a place
-    Clear { drive: u8, place: u8 },
+    Clear {
+        drive: u8,
+        place: u8,
+    },
     // the file is replaced by one with this number, and with this bar for the object
-    Replace { number: u64, bar: u64 },
+    Replace {
+        number: u64,
+        bar: u64,
+    },
 }
 
 // What the caller is told.

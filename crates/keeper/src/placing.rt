@@ -30,14 +30,32 @@ fn place(heap: Global, object: Object, answer: Answer, drive: u8, place: u8, byt
     ensures { λ r. ⌜ Gives r (stateOf object) (placed (stateOf object) (replyOf answer) drive place (vec-items bytes)) ⌝ }
 {
     let mut effects = Vec::new(heap);
-    if effects.push(Effect::Write { drive, place, bytes }).is_err() {
+    if effects
+        .push(Effect::Write {
+            drive,
+            place,
+            bytes,
+        })
+        .is_err() {
         return refuse(heap, object, Refusal::NoMemory);
     }
-    Step { answer, effects, object }
+    Step {
+        answer,
+        effects,
+        object,
+    }
 }
 
 // Writes a piece of the new version to a drive that is in.
-pub fn write(heap: Global, number: u8, need: u8, present: &[bool], object: Object, drive: u8, entries: &[Entry]) -> Step
+pub fn write(
+    heap: Global,
+    number: u8,
+    need: u8,
+    present: &[bool],
+    object: Object,
+    drive: u8,
+    entries: &[Entry],
+) -> Step
     requires { ⌜ 0 < need ⌝ ∗ ⌜ need ≤ 31 ⌝ ∗ ⌜ length (now present) ≤ 32 ⌝ }
     ensures { λ r. ⌜ GivesBy need number r (stateOf object) (λ C. write-of C (setupOf need (now (present .entry))) (stateOf object) drive (readingsOf (now (entries .entry)))) ⌝ }
 {
@@ -53,14 +71,28 @@ pub fn write(heap: Global, number: u8, need: u8, present: &[bool], object: Objec
     let Some(at) = place_for(entries, drive, writing.to) else {
         return refuse(heap, object, Refusal::NoPlace);
     };
-    let Ok(bytes) = record_for(heap, number, need, drive, writing.to, writing.bytes.as_slice()) else {
+    let Ok(bytes) = record_for(
+        heap,
+        number,
+        need,
+        drive,
+        writing.to,
+        writing.bytes.as_slice(),
+    ) else {
         return refuse(heap, object, Refusal::NoMemory);
     };
     place(heap, object, Answer::Done, drive, at, bytes)
 }
 
 // Reads an object that counts a version: any pieces of it, as many as are needed, give it; version 0 is no object.
-pub fn read(heap: Global, number: u8, need: u8, present: &[bool], object: Object, entries: &[Entry]) -> Step
+pub fn read(
+    heap: Global,
+    number: u8,
+    need: u8,
+    present: &[bool],
+    object: Object,
+    entries: &[Entry],
+) -> Step
     requires { ⌜ 0 < need ⌝ ∗ ⌜ need ≤ 31 ⌝ }
     ensures { λ r. ⌜ GivesBy need number r (stateOf object) (λ C. read-of C (setupOf need (now (present .entry))) (stateOf object) (readingsOf (now (entries .entry)))) ⌝ }
 {
@@ -70,17 +102,33 @@ pub fn read(heap: Global, number: u8, need: u8, present: &[bool], object: Object
         Known::Counts(version) => *version,
     };
     if version == 0 {
-        return Step { answer: Answer::Nothing, effects: Vec::new(heap), object };
+        return Step {
+            answer: Answer::Nothing,
+            effects: Vec::new(heap),
+            object,
+        };
     }
     match content_of(heap, need, entries, version) {
-        Ok(Some(bytes)) => Step { answer: Answer::Has(version, bytes), effects: Vec::new(heap), object },
+        Ok(Some(bytes)) => Step {
+            answer: Answer::Has(version, bytes),
+            effects: Vec::new(heap),
+            object,
+        },
         Ok(None) => refuse(heap, object, Refusal::TooFewPieces),
         Err(_) => refuse(heap, object, Refusal::NoMemory),
     }
 }
 
 // Mends an object that counts a version on a drive that is in: where the drive has no piece of it, one is made of others, each of which was checked.
-pub fn mend(heap: Global, number: u8, need: u8, present: &[bool], object: Object, drive: u8, entries: &[Entry]) -> Step
+pub fn mend(
+    heap: Global,
+    number: u8,
+    need: u8,
+    present: &[bool],
+    object: Object,
+    drive: u8,
+    entries: &[Entry],
+) -> Step
     requires { ⌜ 0 < need ⌝ ∗ ⌜ need ≤ 31 ⌝ ∗ ⌜ length (now present) ≤ 32 ⌝ }
     ensures { λ r. ⌜ GivesBy need number r (stateOf object) (λ C. mend-of C (setupOf need (now (present .entry))) (stateOf object) drive (readingsOf (now (entries .entry)))) ⌝ }
 {
@@ -95,7 +143,16 @@ pub fn mend(heap: Global, number: u8, need: u8, present: &[bool], object: Object
     mend_to(heap, number, need, present, object, drive, entries, version)
 }
 
-fn mend_to(heap: Global, number: u8, need: u8, present: &[bool], object: Object, drive: u8, entries: &[Entry], version: u64) -> Step
+fn mend_to(
+    heap: Global,
+    number: u8,
+    need: u8,
+    present: &[bool],
+    object: Object,
+    drive: u8,
+    entries: &[Entry],
+    version: u64,
+) -> Step
     requires { ⌜ 0 < need ⌝ ∗ ⌜ need ≤ 31 ⌝ ∗ ⌜ length (now present) ≤ 32 ⌝ ∗ ⌜ drive < length (now present) ⌝ }
     ensures { λ r. ⌜ GivesBy need number r (stateOf object) (λ C. mendTo C (setupOf need (now (present .entry))) (stateOf object) drive (readingsOf (now (entries .entry))) version) ⌝ }
 {
@@ -103,24 +160,50 @@ fn mend_to(heap: Global, number: u8, need: u8, present: &[bool], object: Object,
         return refuse(heap, object, Refusal::DriveOut);
     }
     if version == 0 {
-        let why = if place_for(entries, drive, version).is_some() { Refusal::CountsNone } else { Refusal::NoPlace };
+        let why = if place_for(entries, drive, version).is_some() {
+            Refusal::CountsNone
+        } else {
+            Refusal::NoPlace
+        };
         return refuse(heap, object, why);
     }
     if is_holder(entries, drive, version) {
-        return Step { answer: Answer::Mended(0), effects: Vec::new(heap), object };
+        return Step {
+            answer: Answer::Mended(0),
+            effects: Vec::new(heap),
+            object,
+        };
     }
     let Some(at) = place_for(entries, drive, version) else {
         return refuse(heap, object, Refusal::NoPlace);
     };
     match content_of(heap, need, entries, version) {
-        Ok(Some(bytes)) => remake(heap, number, need, object, drive, version, at, bytes.as_slice()),
+        Ok(Some(bytes)) => remake(
+            heap,
+            number,
+            need,
+            object,
+            drive,
+            version,
+            at,
+            bytes.as_slice(),
+        ),
         Ok(None) => refuse(heap, object, Refusal::TooFewPieces),
         Err(_) => refuse(heap, object, Refusal::NoMemory),
     }
 }
 
 // The piece that a drive has of these bytes goes to a place of it.
-fn remake(heap: Global, number: u8, need: u8, object: Object, drive: u8, version: u64, at: u8, bytes: &[u8]) -> Step
+fn remake(
+    heap: Global,
+    number: u8,
+    need: u8,
+    object: Object,
+    drive: u8,
+    version: u64,
+    at: u8,
+    bytes: &[u8],
+) -> Step
     requires { ⌜ 0 < need ⌝ ∗ ⌜ need ≤ 31 ⌝ ∗ ⌜ drive ≤ 31 ⌝ ∗ ⌜ length (now bytes) ≤ 65536 ⌝ }
     ensures { λ r. ⌜ Gives r (stateOf object) (placed (stateOf object) (mended 1) drive at (recordOf number drive version (pieceOf need drive (now (bytes .entry))))) ⌝ }
 {

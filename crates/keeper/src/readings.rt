@@ -128,5 +128,9 @@ fn free_place(entries: &[Entry], drive: u8) -> Option<u8>
 pub fn place_for(entries: &[Entry], drive: u8, version: u64) -> Option<u8>
     ensures { λ r. ⌜ r ≡ placeFor places drive version (readingsOf (now (entries .entry))) ⌝ }
 {
-    if is_holder(entries, drive, version) { own_place(entries, drive, version) } else { free_place(entries, drive) }
+    if is_holder(entries, drive, version) {
+        own_place(entries, drive, version)
+    } else {
+        free_place(entries, drive)
+    }
 }

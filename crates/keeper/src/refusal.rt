@@ -1,4 +1,6 @@
 // Why a step is refused.
+ghost use mathlib.Core.Path.{_≡_};
+ghost use Rattle.keeper.specs.Steps.{number as number-as-told};
 
 // Nothing has changed where a step is refused. Cases that share a number are told by the same number.
 #[derive(Clone, Copy, PartialEq, Eq, Debug)]
@@ -28,4 +30,27 @@ pub enum Refusal {
     NoMoreVersions,
     // want of memory
     NoMemory,
+}
+
+// The number by which a refusal is told.
+pub fn number_of(why: Refusal) -> u8
+    ensures { λ r. ⌜ r ≡ number-as-told why ⌝ }
+{
+    match why {
+        Refusal::NoMemory => 0,
+        Refusal::NoSuch => 1,
+        Refusal::TooLong => 1,
+        Refusal::Unsure => 2,
+        Refusal::BeingWritten => 3,
+        Refusal::NotBeingWritten => 4,
+        Refusal::NotUnsure => 4,
+        Refusal::DriveOut => 5,
+        Refusal::NoPlace => 5,
+        Refusal::NotEverywhere => 6,
+        Refusal::TooFewIn => 6,
+        Refusal::TooFewPieces => 7,
+        Refusal::CountsNone => 7,
+        Refusal::BadFile => 8,
+        Refusal::NoMoreVersions => 9,
+    }
 }

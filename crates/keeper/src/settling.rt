@@ -37,7 +37,14 @@ fn is_higher(version: u64, best: &Option<Candidate>) -> bool
 }
 
 // The better of what was found so far and a version: it isn't 0, isn't below the bar, is higher, and works out.
-fn better(heap: Global, need: u8, entries: &[Entry], bar: u64, best: Option<Candidate>, version: u64) -> Result<Option<Candidate>, AllocError>
+fn better(
+    heap: Global,
+    need: u8,
+    entries: &[Entry],
+    bar: u64,
+    best: Option<Candidate>,
+    version: u64,
+) -> Result<Option<Candidate>, AllocError>
     requires { ⌜ 0 < need ⌝ ∗ ⌜ need ≤ 31 ⌝ }
     ensures { λ r. ⌜ made r (λ b. Betters need bar (readingsOf (now (entries .entry))) (foundOf best) version (foundOf b)) ⌝ }
 {
@@ -51,7 +58,12 @@ fn better(heap: Global, need: u8, entries: &[Entry], bar: u64, best: Option<Cand
 }
 
 // The highest version that isn't below the bar, and of which enough pieces are in and work out.
-fn highest(heap: Global, need: u8, entries: &[Entry], bar: u64) -> Result<Option<Candidate>, AllocError>
+fn highest(
+    heap: Global,
+    need: u8,
+    entries: &[Entry],
+    bar: u64,
+) -> Result<Option<Candidate>, AllocError>
     requires { ⌜ 0 < need ⌝ ∗ ⌜ need ≤ 31 ⌝ }
     ensures { λ r. ⌜ made r (λ b. Highest need bar (readingsOf (now (entries .entry))) (foundOf b)) ⌝ }
 {
@@ -73,7 +85,16 @@ fn settle_none(heap: Global, object: Object, entries: &[Entry]) -> Step
     if effects.push(Effect::Replace { number, bar }).is_err() {
         return refuse(heap, object, Refusal::NoMemory);
     }
-    Step { answer: Answer::Nothing, effects, object: Object { known: Known::Counts(0), bar, next: bar + 1, number } }
+    Step {
+        answer: Answer::Nothing,
+        effects,
+        object: Object {
+            known: Known::Counts(0),
+            bar,
+            next: bar + 1,
+            number,
+        },
+    }
 }
 
 // A version was found: it is written anew under the next number, and all pieces but its and the bar's go.
@@ -85,15 +106,33 @@ fn settle_on(heap: Global, object: Object, entries: &[Entry], candidate: Candida
         return refuse(heap, object, Refusal::NoMemory);
     };
     let version = candidate.version;
-    let Ok(effects) = clears(effects, entries, Rule::AllBut { version, other: object.bar }) else {
+    let Ok(effects) = clears(
+        effects,
+        entries,
+        Rule::AllBut {
+            version,
+            other: object.bar,
+        },
+    ) else {
         return refuse(heap, object, Refusal::NoMemory);
     };
     let next = object.next;
-    Step { answer: Answer::Found(version, next), effects, object: written_on(object, version, candidate.bytes) }
+    Step {
+        answer: Answer::Found(version, next),
+        effects,
+        object: written_on(object, version, candidate.bytes),
+    }
 }
 
 // Settles an object that is unsure.
-pub fn settle(heap: Global, number: u8, need: u8, present: &[bool], object: Object, entries: &[Entry]) -> Step
+pub fn settle(
+    heap: Global,
+    number: u8,
+    need: u8,
+    present: &[bool],
+    object: Object,
+    entries: &[Entry],
+) -> Step
     requires { ⌜ 0 < need ⌝ ∗ ⌜ need ≤ 31 ⌝ }
     ensures { λ r. ⌜ GivesBy need number r (stateOf object) (λ C. settle-of C (setupOf need (now (present .entry))) (stateOf object) (readingsOf (now (entries .entry)))) ⌝ }
 {

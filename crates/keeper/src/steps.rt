@@ -9,9 +9,9 @@ ghost use Rattle.keeper.specs.Rules.{names};
 ghost use Rattle.keeper.specs.Shown.{stateOf, outcomeOf, actOf, readingsOf, setupOf, Gives};
 ghost use Rattle.keeper.specs.Object.{refuse as refusal-of};
 ghost use Rattle.keeper.specs.Steps.{begin as begin-of, raised as raised-of, reserve as reserve-of, writingOn, finishTo, finish as finish-of, takeAway, tidyTo, tidy as tidy-of, sweep as sweep-of, giveUp};
-use crate::object::Answer;
 use crate::clearing::Rule;
 use crate::clearing::clears;
+use crate::object::Answer;
 use crate::object::Effect;
 use crate::object::Entry;
 use crate::object::Known;
@@ -25,14 +25,20 @@ use std::alloc::AllocError;
 use std::alloc::Global;
 
 const LONGEST: usize = 65_536;
+
 const STRIDE: u64 = 1024;
+
 pub const LAST_NUMBER: u64 = 1 << 63;
 
 // Nothing changes, and the caller is told why.
 pub fn refuse(heap: Global, object: Object, why: Refusal) -> Step
     ensures { λ r. ⌜ outcomeOf r ≡ refusal-of (stateOf object) why ⌝ }
 {
-    Step { answer: Answer::Refused(why), effects: Vec::new(heap), object }
+    Step {
+        answer: Answer::Refused(why),
+        effects: Vec::new(heap),
+        object,
+    }
 }
 
 // Begins to write an object that counts a version: it is being written, from that one to the next.
@@ -53,7 +59,11 @@ pub fn begin(heap: Global, object: Object, bytes: Vec<u8>) -> Step
     let Ok(effects) = reserve(heap, &object) else {
         return refuse(heap, object, Refusal::NoMemory);
     };
-    Step { answer: Answer::Version(object.next), effects, object: written_on(object, from, bytes) }
+    Step {
+        answer: Answer::Version(object.next),
+        effects,
+        object: written_on(object, from, bytes),
+    }
 }
 
 // Where the file's number isn't above the next version's, it is raised before that is used.
@@ -63,7 +73,10 @@ pub fn reserve(heap: Global, object: &Object) -> Result<Vec<Effect>, AllocError>
 {
     let mut effects = Vec::new(heap);
     if object.number <= object.next {
-        effects.push(Effect::Replace { number: object.number + STRIDE, bar: object.bar })?;
+        effects.push(Effect::Replace {
+            number: object.number + STRIDE,
+            bar: object.bar,
+        })?;
     }
     Ok(effects)
 }
@@ -73,7 +86,11 @@ pub fn raised(object: &Object) -> u64
     requires { ⌜ now object .next < 2 ^ 63 ⌝ }
     ensures { λ r. ⌜ r ≡ raised-of (stateOf (now (object .entry))) ⌝ }
 {
-    if object.number <= object.next { object.number + STRIDE } else { object.number }
+    if object.number <= object.next {
+        object.number + STRIDE
+    } else {
+        object.number
+    }
 }
 
 // The object is being written, from a version to the next one, whose number is used up.
@@ -83,7 +100,12 @@ pub fn written_on(object: Object, from: u64, bytes: Vec<u8>) -> Object
 {
     let to = object.next;
     let number = raised(&object);
-    Object { known: Known::Writing(Writing { from, to, bytes }), bar: object.bar, next: to + 1, number }
+    Object {
+        known: Known::Writing(Writing { from, to, bytes }),
+        bar: object.bar,
+        next: to + 1,
+        number,
+    }
 }
 
 // Finishes a writing, when all drives that are in have the new version and enough are in: it counts and is the bar, in the file.
@@ -98,7 +120,14 @@ pub fn finish(heap: Global, need: u8, present: &[bool], object: Object, entries:
     finish_to(heap, need, present, object, entries, to)
 }
 
-fn finish_to(heap: Global, need: u8, present: &[bool], object: Object, entries: &[Entry], to: u64) -> Step
+fn finish_to(
+    heap: Global,
+    need: u8,
+    present: &[bool],
+    object: Object,
+    entries: &[Entry],
+    to: u64,
+) -> Step
     requires { ⌜ length (now present) ≤ 256 ⌝ }
     ensures { λ r. ⌜ Gives r (stateOf object) (finishTo (setupOf need (now (present .entry))) (stateOf object) (readingsOf (now (entries .entry))) to) ⌝ }
 {
@@ -109,11 +138,25 @@ fn finish_to(heap: Global, need: u8, present: &[bool], object: Object, entries: 
         return refuse(heap, object, Refusal::TooFewIn);
     }
     let mut effects = Vec::new(heap);
-    if effects.push(Effect::Replace { number: object.number, bar: to }).is_err() {
+    if effects
+        .push(Effect::Replace {
+            number: object.number,
+            bar: to,
+        })
+        .is_err() {
         return refuse(heap, object, Refusal::NoMemory);
     }
-    let object = Object { known: Known::Counts(to), bar: to, next: object.next, number: object.number };
-    Step { answer: Answer::Version(to), effects, object }
+    let object = Object {
+        known: Known::Counts(to),
+        bar: to,
+        next: object.next,
+        number: object.number,
+    };
+    Step {
+        answer: Answer::Version(to),
+        effects,
+        object,
+    }
 }
 
 // The entries that the rule names go, and the caller is told how many.
@@ -121,13 +164,24 @@ fn take_away(heap: Global, object: Object, entries: &[Entry], rule: Rule) -> Ste
     ensures { λ r. ⌜ Gives r (stateOf object) (takeAway (stateOf object) (names rule) (readingsOf (now (entries .entry)))) ⌝ }
 {
     match clears(Vec::new(heap), entries, rule) {
-        Ok(effects) => Step { answer: Answer::Removed(effects.len()), effects, object },
+        Ok(effects) => Step {
+            answer: Answer::Removed(effects.len()),
+            effects,
+            object,
+        },
         Err(_) => refuse(heap, object, Refusal::NoMemory),
     }
 }
 
 // Tidies an object that counts a version on a drive that is in: pieces of other versions go.
-pub fn tidy(heap: Global, need: u8, present: &[bool], object: Object, drive: u8, entries: &[Entry]) -> Step
+pub fn tidy(
+    heap: Global,
+    need: u8,
+    present: &[bool],
+    object: Object,
+    drive: u8,
+    entries: &[Entry],
+) -> Step
     ensures { λ r. ⌜ Gives r (stateOf object) (tidy-of (setupOf need (now (present .entry))) (stateOf object) drive (readingsOf (now (entries .entry)))) ⌝ }
 {
     if drive as usize >= present.len() {
@@ -141,7 +195,15 @@ pub fn tidy(heap: Global, need: u8, present: &[bool], object: Object, drive: u8,
     tidy_to(heap, need, present, object, drive, entries, version)
 }
 
-fn tidy_to(heap: Global, need: u8, present: &[bool], object: Object, drive: u8, entries: &[Entry], version: u64) -> Step
+fn tidy_to(
+    heap: Global,
+    need: u8,
+    present: &[bool],
+    object: Object,
+    drive: u8,
+    entries: &[Entry],
+    version: u64,
+) -> Step
     requires { ⌜ drive < length (now present) ⌝ }
     ensures { λ r. ⌜ Gives r (stateOf object) (tidyTo (setupOf need (now (present .entry))) (stateOf object) drive (readingsOf (now (entries .entry))) version) ⌝ }
 {
@@ -152,7 +214,14 @@ fn tidy_to(heap: Global, need: u8, present: &[bool], object: Object, drive: u8, 
 }
 
 // Sweeps an object on a drive that is in, at any time: its pieces below its bar go.
-pub fn sweep(heap: Global, need: u8, present: &[bool], object: Object, drive: u8, entries: &[Entry]) -> Step
+pub fn sweep(
+    heap: Global,
+    need: u8,
+    present: &[bool],
+    object: Object,
+    drive: u8,
+    entries: &[Entry],
+) -> Step
     ensures { λ r. ⌜ Gives r (stateOf object) (sweep-of (setupOf need (now (present .entry))) (stateOf object) drive (readingsOf (now (entries .entry)))) ⌝ }
 {
     if drive as usize >= present.len() {
@@ -171,8 +240,17 @@ pub fn give_up(heap: Global, object: Object) -> Step
 {
     match &object.known {
         Known::Writing(_) => {
-            let object = Object { known: Known::Unsure, bar: object.bar, next: object.next, number: object.number };
-            Step { answer: Answer::Unknown, effects: Vec::new(heap), object }
+            let object = Object {
+                known: Known::Unsure,
+                bar: object.bar,
+                next: object.next,
+                number: object.number,
+            };
+            Step {
+                answer: Answer::Unknown,
+                effects: Vec::new(heap),
+                object,
+            }
         }
         _ => refuse(heap, object, Refusal::NotBeingWritten),
     }

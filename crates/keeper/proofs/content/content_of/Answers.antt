@@ -24,7 +24,8 @@ returns-in-Ok c =
     let same = chosen-first (c .args .need) (vec-items (c .in-Continue-chosen .chosen)) (c .as-slice .result .now) _ (c .in-Continue-chosen .ensures tt) (c .as-slice .ensures .value ∙ c .truncate .ensures .items) in
     record {
       content = λ o f u right un. content-worked (c .args .need) (c .args .version) rs (c .as-slice .result .now) same (c .pre) o f u right un (vec-items (c .in-Ok .bytes)) enough (c .in-Ok .ensures tt .told);
-      short = omega (arith, c .in-Ok .ensures tt .told .length-is, c .in-Ok .bytes .ok .0) }
+      short = omega (arith, c .in-Ok .ensures tt .told .length-is, c .in-Ok .bytes .ok .0);
+    }
 
 pub returns : need.returns
 returns c =
@@ -34,4 +35,5 @@ returns c =
     let same = chosen-first (c .args .need) (vec-items (c .in-Continue-chosen .chosen)) (c .as-slice .result .now) _ (c .in-Continue-chosen .ensures tt) (c .as-slice .ensures .value ∙ c .truncate .ensures .items) in
     record {
       content = λ o f u right un. content-none (c .args .need) (c .args .version) rs (c .as-slice .result .now) same (c .pre) o f u right un enough (λ content worked. c .in-rest .not-NoMemory (c .in-Err .ensures tt .found content worked));
-      short = tt }
+      short = tt;
+    }

@@ -15,15 +15,16 @@ loop-entry-holds c =
 pub loop-entry-again : need.loop-entry-again
 loop-entry-again c =
     elim (c .if-counts-as .came) [
-    then-counts-as·in-Continue-copied·in-Continue-push w ↦
-        choose-more (countsAs (readingsOf (c .args .entries .now)) (c .args .version)) readingOf given pieceGiven (c .args .entries .now) (c .loop-entry .entry-index) (vec-items (c .loop-entry .chosen)) _ (c .loop-entry .inv)
-        (c .entry-item .result) _ (vec-items (c .if-counts-as .chosen)) (c .loop-entry-test .taken) (c .entry-item .is) (sym (c .counts-as .ensures) ∙ w .if-counts-as .taken)
-        (ap vec-items (w .chosen-is) ∙ w .in-Continue-push .ensures tt .items)
-        (ap (λ bytes. (c .entry-item .result .drive, bytes)) (w .in-Continue-copied .ensures tt ∙ w .as-slice .ensures .value))
-    | else-counts-as w ↦
-        rw (w .chosen-is)
-        (choose-left (countsAs (readingsOf (c .args .entries .now)) (c .args .version)) readingOf given pieceGiven (c .args .entries .now) (c .loop-entry .entry-index) (vec-items (c .loop-entry .chosen)) _ (c .loop-entry .inv)
-        (c .entry-item .result) (c .loop-entry-test .taken) (c .entry-item .is) (sym (c .counts-as .ensures) ∙ w .if-counts-as .left)) ]
+      | then-counts-as·in-Continue-copied·in-Continue-push w ↦
+          choose-more (countsAs (readingsOf (c .args .entries .now)) (c .args .version)) readingOf given pieceGiven (c .args .entries .now) (c .loop-entry .entry-index) (vec-items (c .loop-entry .chosen)) _ (c .loop-entry .inv)
+          (c .entry-item .result) _ (vec-items (c .if-counts-as .chosen)) (c .loop-entry-test .taken) (c .entry-item .is) (sym (c .counts-as .ensures) ∙ w .if-counts-as .taken)
+          (ap vec-items (w .chosen-is) ∙ w .in-Continue-push .ensures tt .items)
+          (ap (λ bytes. (c .entry-item .result .drive, bytes)) (w .in-Continue-copied .ensures tt ∙ w .as-slice .ensures .value))
+      | else-counts-as w ↦
+          rw (w .chosen-is)
+          (choose-left (countsAs (readingsOf (c .args .entries .now)) (c .args .version)) readingOf given pieceGiven (c .args .entries .now) (c .loop-entry .entry-index) (vec-items (c .loop-entry .chosen)) _ (c .loop-entry .inv)
+          (c .entry-item .result) (c .loop-entry-test .taken) (c .entry-item .is) (sym (c .counts-as .ensures) ∙ w .if-counts-as .left))
+    ]
 
 pub returns : need.returns
 returns c =

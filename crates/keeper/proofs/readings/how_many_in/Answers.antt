@@ -20,8 +20,9 @@ loop-is-in-again c =
     let flags : ℕ → Bool = λ d. getD (c .args .present .now) d false in
     let i : ℕ = c .loop-is-in .is-in-index in
     elim (c .if-is-in .came) [
-    then-is-in w ↦ w .count-is ∙ (ap (λ n. n + 1) (c .loop-is-in .inv) ∙ sym (how-many-more i flags (w .if-is-in .taken)))
-    | else-is-in w ↦ w .count-is ∙ (c .loop-is-in .inv ∙ sym (how-many-same i flags (w .if-is-in .left))) ]
+      | then-is-in w ↦ w .count-is ∙ (ap (λ n. n + 1) (c .loop-is-in .inv) ∙ sym (how-many-more i flags (w .if-is-in .taken)))
+      | else-is-in w ↦ w .count-is ∙ (c .loop-is-in .inv ∙ sym (how-many-same i flags (w .if-is-in .left)))
+    ]
 
 pub returns : need.returns
 returns c =
