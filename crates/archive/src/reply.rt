@@ -1,8 +1,7 @@
 // What a command is answered, as a line.
-ghost use mathlib.Core.Path.{_≡_};
-ghost use Rattle.keeper.specs.Steps.{number};
 use crate::fault::Fault;
 use crate::fault::FaultDisplay;
+use keeper::number_of;
 use keeper::object::Answer;
 use keeper::refusal::Refusal;
 use std::alloc::AllocError;
@@ -51,29 +50,6 @@ pub impl fmt::Display for Reply as ReplyDisplay {
 // An empty object's line ends with its version.
 fn write_object<W: fmt::Write>(f: &mut fmt::Formatter<W>, version: u64, hex: &str) -> fmt::Result {
     if hex.is_empty() { write!(f, "ok version {version}") } else { write!(f, "ok version {version} {hex}") }
-}
-
-// The number by which a refusal is told; 0 for want of memory.
-pub fn number_of(why: Refusal) -> u8
-    ensures { λ r. ⌜ r ≡ number why ⌝ }
-{
-    match why {
-        Refusal::NoMemory => 0,
-        Refusal::NoSuch => 1,
-        Refusal::TooLong => 1,
-        Refusal::Unsure => 2,
-        Refusal::BeingWritten => 3,
-        Refusal::NotBeingWritten => 4,
-        Refusal::NotUnsure => 4,
-        Refusal::DriveOut => 5,
-        Refusal::NoPlace => 5,
-        Refusal::NotEverywhere => 6,
-        Refusal::TooFewIn => 6,
-        Refusal::TooFewPieces => 7,
-        Refusal::CountsNone => 7,
-        Refusal::BadFile => 8,
-        Refusal::NoMoreVersions => 9,
-    }
 }
 
 fn refusal(why: Refusal) -> Reply {

@@ -9,6 +9,7 @@ use archive::FaultDisplay;
 use archive::KeptDisplay;
 use archive::Reply;
 use archive::ReplyDisplay;
+use memory::MemoryDisks;
 use rehearsal::Rehearsal;
 use script::Command;
 use script::LineErrorDisplay;

@@ -117,8 +117,9 @@ pub impl Disks for Memory as MemoryDisks {
         for place in 0..PLACES {
             if let Some(slot) = self.slot(drive, object, place)
                 && let Some(entry) = entry_at(heap, slot.as_slice(), object, drive, place)?
+                && into.push(entry).is_err()
             {
-                into.push(entry)?;
+                return Err(Fault::NoMemory);
             }
         }
         Ok(())
