@@ -1,10 +1,9 @@
 // The keeper's steps on drives: each reads what it looks at, no more, and does what is to be done in its order.
 use crate::disks::Disks;
 use crate::fault::Fault;
-use crate::fault::FaultFromAlloc;
+use crate::perform::perform_all;
 use keeper::Keeper;
 use keeper::object::Answer;
-use keeper::object::Effect;
 use keeper::object::Entry;
 use keeper::object::Step;
 use keeper::readings::is_holder;
@@ -12,6 +11,7 @@ use std::alloc::Global;
 
 // How many objects there are, and a number that no drive has.
 const OBJECTS: u64 = 256;
+
 const NO_DRIVE: u8 = 255;
 
 #[derive(Drop)]
@@ -90,7 +90,8 @@ impl<D: Disks> Archive<D> {
     fn on_drive(&mut self, heap: Global, object: u64, drive: u64) -> Result<Vec<Entry>, Fault> {
         let mut entries = Vec::new(heap);
         if object < OBJECTS && drive < OBJECTS && self.keeper.drives().is_in(drive as u8) {
-            self.disks.read_object(heap, object as u8, drive as u8, &mut entries)?;
+            self.disks
+                .read_object(heap, object as u8, drive as u8, &mut entries)?;
         }
         Ok(entries)
     }
@@ -104,7 +105,8 @@ impl<D: Disks> Archive<D> {
         let drives = self.keeper.drives();
         for drive in 0..drives.count() {
             if drives.is_in(drive) {
-                self.disks.read_object(heap, object as u8, drive, &mut entries)?;
+                self.disks
+                    .read_object(heap, object as u8, drive, &mut entries)?;
             }
         }
         Ok(entries)
@@ -122,7 +124,13 @@ impl<D: Disks> Archive<D> {
     }
 
     // Adds the pieces on the lowest drives that are in, but for one, until as many as are needed have the version that counts.
-    fn add_needed(&mut self, heap: Global, object: u64, but: u8, entries: &mut Vec<Entry>) -> Result<(), Fault> {
+    fn add_needed(
+        &mut self,
+        heap: Global,
+        object: u64,
+        but: u8,
+        entries: &mut Vec<Entry>,
+    ) -> Result<(), Fault> {
         if object >= OBJECTS {
             return Ok(());
         }
@@ -132,7 +140,14 @@ impl<D: Disks> Archive<D> {
         }
     }
 
-    fn add_holders(&mut self, heap: Global, object: u8, version: u64, but: u8, entries: &mut Vec<Entry>) -> Result<(), Fault> {
+    fn add_holders(
+        &mut self,
+        heap: Global,
+        object: u8,
+        version: u64,
+        but: u8,
+        entries: &mut Vec<Entry>,
+    ) -> Result<(), Fault> {
         let drives = self.keeper.drives();
         let mut wanted = self.keeper.need();
         for drive in 0..drives.count() {
@@ -148,46 +163,50 @@ impl<D: Disks> Archive<D> {
 
     // Does what a step asks for, and hands the object's state back once all of it is done.
     fn complete(&mut self, heap: Global, object: u64, step: Step) -> Result<Answer, Fault> {
-        let Step { answer, effects, object: state } = step;
+        let Step {
+            answer,
+            effects,
+            object: state,
+        } = step;
         if object < OBJECTS {
-            self.perform(heap, object as u8, effects.as_slice())?;
+            perform_all(
+                heap,
+                &self.keeper,
+                &mut self.disks,
+                object as u8,
+                effects.as_slice(),
+            )?;
             self.keeper.accept(object, state);
         }
         Ok(answer)
     }
 
     // The same for the steps that leave the object's state as it was, and don't touch the file: it is handed back also where a drive fails half-way.
-    fn complete_on_drive(&mut self, heap: Global, object: u64, step: Step) -> Result<Answer, Fault> {
-        let Step { answer, effects, object: state } = step;
+    fn complete_on_drive(
+        &mut self,
+        heap: Global,
+        object: u64,
+        step: Step,
+    ) -> Result<Answer, Fault> {
+        let Step {
+            answer,
+            effects,
+            object: state,
+        } = step;
         if object >= OBJECTS {
             return Ok(answer);
         }
-        let done = self.perform(heap, object as u8, effects.as_slice());
+        let done = perform_all(
+            heap,
+            &self.keeper,
+            &mut self.disks,
+            object as u8,
+            effects.as_slice(),
+        );
         self.keeper.accept(object, state);
         match done {
             Ok(()) => Ok(answer),
             Err(fault) => Err(fault),
         }
-    }
-
-    // Does the effects one by one, each once the one before is done, up to the first that fails.
-    fn perform(&mut self, heap: Global, object: u8, effects: &[Effect]) -> Result<(), Fault> {
-        for effect in effects {
-            self.perform_one(heap, object, effect)?;
-        }
-        Ok(())
-    }
-
-    fn perform_one(&mut self, heap: Global, object: u8, effect: &Effect) -> Result<(), Fault> {
-        match effect {
-            Effect::Write { drive, place, bytes } => self.disks.write(object, *drive, *place, bytes.as_slice()),
-            Effect::Clear { drive, place } => self.disks.clear(object, *drive, *place),
-            Effect::Replace { number, bar } => self.replace(heap, object, *number, *bar),
-        }
-    }
-
-    fn replace(&mut self, heap: Global, object: u8, number: u64, bar: u64) -> Result<(), Fault> {
-        let bytes = self.keeper.file(heap, object, number, bar)?;
-        self.disks.replace_file(bytes.as_slice())
     }
 }

@@ -27,7 +27,11 @@ pub struct Count {
 
 pub impl fmt::Display for Kept as KeptDisplay {
     fn fmt<W: fmt::Write>(&self, f: &mut fmt::Formatter<W>) -> fmt::Result {
-        let Kept { object, version, pieces } = *self;
+        let Kept {
+            object,
+            version,
+            pieces,
+        } = *self;
         if pieces == 0 {
             write!(f, "object {object} none")
         } else {
@@ -76,12 +80,23 @@ impl Count {
     }
 
     // An object's part, added.
-    fn add(&mut self, drives: Drives, entries: &[Entry], object: u8, version: u64) -> Result<(), AllocError> {
+    fn add(
+        &mut self,
+        drives: Drives,
+        entries: &[Entry],
+        object: u8,
+        version: u64,
+    ) -> Result<(), AllocError> {
         let (strong, pieces) = strong_for(drives, entries, version);
         if pieces > 0 {
             self.strong = both(self.strong, strong);
         }
-        self.objects.push(Kept { object, version, pieces })?;
+        self.objects
+            .push(Kept {
+                object,
+                version,
+                pieces,
+            })?;
         Ok(())
     }
 }
@@ -89,7 +104,10 @@ impl Count {
 impl<D: Disks> Archive<D> {
     // Counts, for each object whose bar isn't 0, the drives that are in and have it.
     pub fn count(&mut self, heap: Global) -> Result<Count, Fault> {
-        let mut count = Count { strong: self.keeper.drives(), objects: Vec::new(heap) };
+        let mut count = Count {
+            strong: self.keeper.drives(),
+            objects: Vec::new(heap),
+        };
         for object in 0..=255u8 {
             let bar = self.keeper.bar(object);
             if bar != 0 {

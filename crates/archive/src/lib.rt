@@ -4,6 +4,7 @@ mod count;
 mod disks;
 mod fault;
 mod many;
+mod perform;
 mod play;
 mod reply;
 
@@ -15,5 +16,6 @@ pub use disks::Disks;
 pub use fault::Fault;
 pub use fault::FaultDisplay;
 pub use fault::FaultFromAlloc;
+pub use perform::perform_all;
 pub use reply::Reply;
 pub use reply::ReplyDisplay;

@@ -62,7 +62,10 @@ impl<D: Disks> Archive<D> {
 
     // Tidies and mends every object on every drive that is in; refusals are passed over.
     pub fn heal(&mut self, heap: Global) -> Result<Healed, Fault> {
-        let mut healed = Healed { tidied: 0, mended: 0 };
+        let mut healed = Healed {
+            tidied: 0,
+            mended: 0,
+        };
         for object in 0..OBJECTS {
             healed = self.heal_object(heap, object, healed)?;
         }
@@ -80,9 +83,18 @@ impl<D: Disks> Archive<D> {
         Ok(healed)
     }
 
-    fn heal_on(&mut self, heap: Global, object: u64, drive: u64, before: Healed) -> Result<Healed, Fault> {
+    fn heal_on(
+        &mut self,
+        heap: Global,
+        object: u64,
+        drive: u64,
+        before: Healed,
+    ) -> Result<Healed, Fault> {
         let tidied = pieces_in(self.tidy(heap, object, drive)?);
         let mended = pieces_in(self.mend(heap, object, drive)?);
-        Ok(Healed { tidied: before.tidied.saturating_add(tidied), mended: before.mended.saturating_add(mended) })
+        Ok(Healed {
+            tidied: before.tidied.saturating_add(tidied),
+            mended: before.mended.saturating_add(mended),
+        })
     }
 }

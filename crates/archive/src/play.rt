@@ -30,7 +30,11 @@ impl<D: Disks> Archive<D> {
                 let Healed { tidied, mended } = self.heal(heap)?;
                 Ok(Reply::Healed { tidied, mended })
             }
-            Command::Count | Command::Show | Command::Stop(_) | Command::Wipe { .. } | Command::Spoil { .. } => Ok(Reply::NotHere),
+            Command::Count
+            | Command::Show
+            | Command::Stop(_)
+            | Command::Wipe { .. }
+            | Command::Spoil { .. } => Ok(Reply::NotHere),
             other => {
                 let answer = self.play_step(heap, other)?;
                 Ok(reply_to(heap, answer)?)

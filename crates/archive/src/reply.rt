@@ -49,7 +49,11 @@ pub impl fmt::Display for Reply as ReplyDisplay {
 
 // An empty object's line ends with its version.
 fn write_object<W: fmt::Write>(f: &mut fmt::Formatter<W>, version: u64, hex: &str) -> fmt::Result {
-    if hex.is_empty() { write!(f, "ok version {version}") } else { write!(f, "ok version {version} {hex}") }
+    if hex.is_empty() {
+        write!(f, "ok version {version}")
+    } else {
+        write!(f, "ok version {version} {hex}")
+    }
 }
 
 fn refusal(why: Refusal) -> Reply {
@@ -65,7 +69,10 @@ pub fn reply_to(heap: Global, answer: Answer) -> Result<Reply, AllocError> {
         Answer::Refused(why) => Ok(refusal(why)),
         Answer::Done => Ok(Reply::Done),
         Answer::Version(version) => Ok(Reply::Version(version)),
-        Answer::Has(version, bytes) => Ok(Reply::Has { version, hex: script::hex(heap, bytes.as_slice())? }),
+        Answer::Has(version, bytes) => Ok(Reply::Has {
+            version,
+            hex: script::hex(heap, bytes.as_slice())?,
+        }),
         Answer::Nothing => Ok(Reply::Nothing),
         Answer::Removed(pieces) => Ok(Reply::Pieces(pieces)),
         Answer::Mended(pieces) => Ok(Reply::Pieces(pieces as usize)),

@@ -77,7 +77,11 @@ fn play_command(rt: &LibcRuntime, rehearsal: &mut Rehearsal, command: Command) -
 }
 
 // Tells what came of a command; after a stop the keeper comes up again.
-fn tell(rt: &LibcRuntime, rehearsal: &mut Rehearsal, played: Result<Reply, Fault>) -> io::Result<()> {
+fn tell(
+    rt: &LibcRuntime,
+    rehearsal: &mut Rehearsal,
+    played: Result<Reply, Fault>,
+) -> io::Result<()> {
     match played {
         Ok(reply) => println!(rt, "{reply}"),
         Err(Fault::Stopped) => come_up(rt, rehearsal),

@@ -14,6 +14,7 @@ use std::alloc::Global;
 
 // How many places an object has on a drive, and how many places a drive has.
 const PLACES: u8 = 4;
+
 const SLOTS: usize = 1024;
 
 // A drive: its slots by object and place. A slot that was never written takes no memory.
@@ -52,7 +53,11 @@ impl Memory {
         for _ in 0..count {
             drives.push(Drive::empty(heap)?)?;
         }
-        Ok(Memory { drives, file: Vec::new(heap), waiting: None })
+        Ok(Memory {
+            drives,
+            file: Vec::new(heap),
+            waiting: None,
+        })
     }
 
     fn slot(&mut self, drive: u8, object: u8, place: u8) -> Option<&mut Vec<u8>> {
@@ -83,7 +88,12 @@ impl Memory {
     }
 
     // The versions that a drive has of an object, in order.
-    pub fn versions(&mut self, heap: Global, drive: u8, object: u8) -> Result<Vec<u64>, AllocError> {
+    pub fn versions(
+        &mut self,
+        heap: Global,
+        drive: u8,
+        object: u8,
+    ) -> Result<Vec<u64>, AllocError> {
         let mut versions = Vec::new(heap);
         for place in 0..PLACES {
             if let Some(slot) = self.slot(drive, object, place)
@@ -113,7 +123,13 @@ fn outcome(cut: bool) -> Result<(), Fault> {
 }
 
 pub impl Disks for Memory as MemoryDisks {
-    fn read_object(&mut self, heap: Global, object: u8, drive: u8, into: &mut Vec<Entry>) -> Result<(), Fault> {
+    fn read_object(
+        &mut self,
+        heap: Global,
+        object: u8,
+        drive: u8,
+        into: &mut Vec<Entry>,
+    ) -> Result<(), Fault> {
         for place in 0..PLACES {
             if let Some(slot) = self.slot(drive, object, place)
                 && let Some(entry) = entry_at(heap, slot.as_slice(), object, drive, place)?
@@ -149,6 +165,10 @@ pub impl Disks for Memory as MemoryDisks {
         }
         self.file.resize(bytes.len(), 0)?;
         self.file.as_mut_slice().copy_from_slice(bytes);
-        if let Some(StopAt::FileNew) = self.waiting { Err(Fault::Stopped) } else { Ok(()) }
+        if let Some(StopAt::FileNew) = self.waiting {
+            Err(Fault::Stopped)
+        } else {
+            Ok(())
+        }
     }
 }

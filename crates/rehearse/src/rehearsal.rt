@@ -15,7 +15,9 @@ use std::alloc::AllocError;
 use std::alloc::Global;
 
 const OBJECTS: u64 = 256;
+
 const NO_SUCH: u8 = 1;
+
 const NO_PIECE: u8 = 7;
 
 #[derive(Drop)]
@@ -57,7 +59,9 @@ impl Rehearsal {
     pub fn new(heap: Global, setup: Setup) -> Result<Rehearsal, Fault> {
         let disks = Memory::empty(heap, setup.drives)?;
         let keeper = first(heap, setup.drives, setup.need)?;
-        Ok(Rehearsal { archive: Archive { keeper, disks } })
+        Ok(Rehearsal {
+            archive: Archive { keeper, disks },
+        })
     }
 
     // The keeper comes up again, from the file; no stop waits any more.
@@ -74,7 +78,11 @@ impl Rehearsal {
         match command {
             Command::Stop(at) => self.stop(at),
             Command::Wipe { drive } => self.wipe(heap, drive),
-            Command::Spoil { drive, object, version } => Ok(self.spoil(drive, object, version)),
+            Command::Spoil {
+                drive,
+                object,
+                version,
+            } => Ok(self.spoil(drive, object, version)),
             other => self.archive.play(heap, other),
         }
     }
@@ -87,28 +95,45 @@ impl Rehearsal {
         Ok(Reply::Done)
     }
 
-    fn has_drive(&self, drive: u64) -> bool {
-        drive < self.archive.keeper.drives().count() as u64
+    // The drive of a number; none where there is no such drive.
+    fn drive_of(&self, drive: u64) -> Option<u8> {
+        let count = self.archive.keeper.drives().count();
+        if drive < count as u64 {
+            Some(drive as u8)
+        } else {
+            None
+        }
     }
 
     fn wipe(&mut self, heap: Global, drive: u64) -> Result<Reply, Fault> {
-        if !self.has_drive(drive) {
+        let Some(drive) = self.drive_of(drive) else {
             return Ok(Reply::Refused(NO_SUCH));
-        }
-        self.archive.disks.wipe(heap, drive as u8)?;
+        };
+        self.archive.disks.wipe(heap, drive)?;
         Ok(Reply::Done)
     }
 
     fn spoil(&mut self, drive: u64, object: u64, version: u64) -> Reply {
-        if !self.has_drive(drive) || object >= OBJECTS {
+        let Some(drive) = self.drive_of(drive) else {
+            return Reply::Refused(NO_SUCH);
+        };
+        if object >= OBJECTS {
             return Reply::Refused(NO_SUCH);
         }
-        if self.archive.disks.spoil(drive as u8, object as u8, version) { Reply::Done } else { Reply::Refused(NO_PIECE) }
+        if self.archive.disks.spoil(drive, object as u8, version) {
+            Reply::Done
+        } else {
+            Reply::Refused(NO_PIECE)
+        }
     }
 
     // What `show` says of a drive.
     pub fn drive_line(&mut self, heap: Global, drive: u8) -> Result<String, AllocError> {
-        let state = if self.archive.keeper.drives().is_in(drive) { "in" } else { "out" };
+        let state = if self.archive.keeper.drives().is_in(drive) {
+            "in"
+        } else {
+            "out"
+        };
         let mut line = format!(heap, "drive {drive} {state}:")?;
         for object in 0..=255u8 {
             let versions = self.archive.disks.versions(heap, drive, object)?;
@@ -119,7 +144,12 @@ impl Rehearsal {
 }
 
 // Adds an object's versions, which are in order, each once.
-fn add_versions(heap: Global, line: &mut String, object: u8, versions: &[u64]) -> Result<(), AllocError> {
+fn add_versions(
+    heap: Global,
+    line: &mut String,
+    object: u8,
+    versions: &[u64],
+) -> Result<(), AllocError> {
     let mut last = None;
     for version in versions {
         if last != Some(*version) {

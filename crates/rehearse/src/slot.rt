@@ -10,7 +10,11 @@ const HEADER: usize = 15;
 // Writes bytes to the front of a slot. Where the writing is cut, only those at even places get there, and the slot is then held in full, since the length
 // that its header names may be any.
 pub fn write_over(slot: &mut Vec<u8>, bytes: &[u8], cut: bool) -> Result<(), AllocError> {
-    let len = if cut { bytes.len().max(SLOT) } else { bytes.len() };
+    let len = if cut {
+        bytes.len().max(SLOT)
+    } else {
+        bytes.len()
+    };
     if slot.len() < len {
         slot.resize(len, 0)?;
     }
@@ -59,9 +63,20 @@ fn zero_even(slot: &mut [u8], end: usize) {
 }
 
 // The piece that a slot holds, in bytes of its own.
-pub fn entry_at(heap: Global, slot: &[u8], object: u8, drive: u8, place: u8) -> Result<Option<Entry>, AllocError> {
+pub fn entry_at(
+    heap: Global,
+    slot: &[u8],
+    object: u8,
+    drive: u8,
+    place: u8,
+) -> Result<Option<Entry>, AllocError> {
     match slots::read(slot, object, drive) {
-        Some(held) => Ok(Some(Entry { drive, place, version: held.version, piece: Vec::from_slice(heap, held.piece)? })),
+        Some(held) => Ok(Some(Entry {
+            drive,
+            place,
+            version: held.version,
+            piece: Vec::from_slice(heap, held.piece)?,
+        })),
         None => Ok(None),
     }
 }
