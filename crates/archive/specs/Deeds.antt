@@ -5,7 +5,7 @@ use mathlib.Core.Path.{_≡_}
 use Prim.Native.Nat.{ℕ}
 use lib.ListN.{set}
 use Rattle.keeper.specs.declared.object.Effect.{Effect}
-use Rattle.keeper.specs.File.{fileOf}
+use Rattle.table.specs.File.{fileOf}
 use Rattle.keeper.specs.Object.{Act, writeSlot, clearSlot, replaceFile}
 use Rattle.keeper.specs.Shown.{actOf}
 

@@ -2,7 +2,7 @@
 use crate::disks::Disks;
 use crate::fault::Fault;
 use crate::perform::perform_all;
-use keeper::Keeper;
+use table::Keeper;
 use keeper::object::Answer;
 use keeper::object::Entry;
 use keeper::object::Step;

@@ -3,14 +3,14 @@ ghost use mathlib.Core.Bool.{true};
 ghost use mathlib.Core.Path.{_≡_};
 ghost use lib.ListN.{set};
 ghost use Rattle.std.specs.Results.{isOk};
-ghost use Rattle.keeper.specs.File.{fileOf};
+ghost use Rattle.table.specs.File.{fileOf};
 ghost use Rattle.keeper.specs.Shown.{actOf};
-ghost use Rattle.keeper.specs.Table.{barsOf};
+ghost use Rattle.table.specs.Table.{barsOf};
 ghost use Rattle.archive.specs.Deeds.{replaced, deedOf, deedsOf, Leads};
 use crate::disks::Disks;
 use crate::fault::Fault;
 use crate::fault::FaultFromAlloc;
-use keeper::Keeper;
+use table::Keeper;
 use keeper::object::Effect;
 use std::alloc::Global;
 

@@ -5,5 +5,3 @@ pub mod Shown
 pub mod Rules
 pub mod Real
 pub mod Found
-pub mod File
-pub mod Table

@@ -137,20 +137,17 @@ fn finish_to(
     if how_many_in(present) < need as usize {
         return refuse(heap, object, Refusal::TooFewIn);
     }
+    let number = object.number;
+    let bar = to;
     let mut effects = Vec::new(heap);
-    if effects
-        .push(Effect::Replace {
-            number: object.number,
-            bar: to,
-        })
-        .is_err() {
+    if effects.push(Effect::Replace { number, bar }).is_err() {
         return refuse(heap, object, Refusal::NoMemory);
     }
     let object = Object {
         known: Known::Counts(to),
-        bar: to,
+        bar,
         next: object.next,
-        number: object.number,
+        number,
     };
     Step {
         answer: Answer::Version(to),

@@ -7,7 +7,7 @@ use archive::Fault;
 use archive::FaultFromAlloc;
 use archive::Reply;
 use drives::Drives;
-use keeper::Keeper;
+use table::Keeper;
 use keeper::refusal::Refusal;
 use script::Command;
 use script::StopAt;

@@ -1,6 +1,6 @@
 use borrow.Author.Needs.{needs}
 use Rattle.keeper.specs.Shown.{actOf}
-use Rattle.keeper.specs.Table.{barsOf}
+use Rattle.table.specs.Table.{barsOf}
 use Rattle.archive.specs.Deeds.{deedOf}
 use Rattle.archive.proofs.Leading.{leads-more, leads-end}
 use Rattle.archive.proofs.perform.perform_all.Needs as need

@@ -1,5 +1,5 @@
 use lib.ListN.{drop}
-use Rattle.keeper.specs.Table.{barsOf}
+use Rattle.table.specs.Table.{barsOf}
 use Rattle.archive.specs.Deeds.{deedsOf, Leads}
 use Rattle.archive.proofs.perform.perform_all.Given as given
 
