@@ -60,20 +60,24 @@ answers 'a last line without its end' 'show' 'drive 0 in:\ndrive 1 in:\n' 2 1
 answers 'empty lines and comments are passed over' '\n   \n# show\n#\n' '' 3 2
 answers 'a line with an unknown word' 'shout\nshow\n' 'error: unknown command\ndrive 0 in:\ndrive 1 in:\n' 2 1
 answers 'a line that is not text' '\377\376 1\n' 'error: unknown command\n' 3 2
-answers 'spaces before, between and after' '  read   7  \n' 'error: not available yet\n' 3 2
+answers 'spaces before, between and after' '  read   7  \n' 'ok none\n' 3 2
 answers 'too few and too many words' 'write 1\nwrite 1 2 3\n' 'error: a word is missing\nerror: there are too many words\n' 3 2
 answers 'words that are not numbers' 'read x\nwrite 1 -1\nspoil 1 2 v\ngive up O\n' \
     'error: word 2 is not a number\nerror: word 3 is not a number\nerror: word 4 is not a number\nerror: word 3 is not a number\n' 3 2
 answers 'hexadecimal digits' 'begin 1 abc\nput 1 0g\nput 1 aBcD\nbegin 1\n' \
-    'error: odd number of hexadecimal digits\nerror: not a hexadecimal digit\nerror: not available yet\nerror: not available yet\n' 3 2
-answers 'a number of any length' 'read 99999999999999999999999999\n' 'error: not available yet\n' 3 2
+    'error: odd number of hexadecimal digits\nerror: not a hexadecimal digit\nok version 1\nok version 2\n' 3 2
+answers 'a number of any length' 'read 99999999999999999999999999\n' 'refused 1\n' 3 2
 
-# 32 drives, and an object of the largest size on one line.
+# 32 drives, and an object of the largest size on one line, put and read with as few drives as may be; one byte more is refused.
 [ "$(printf 'show\n' | "$program" 32 31 | wc -l)" = 32 ]
 verdict 'the most drives' $?
-{ printf 'put 1 '; head -c 65536 /dev/zero | od -An -v -tx1 | tr -d ' \n'; echo; } > "$work/long"
-[ "$("$program" 3 2 < "$work/long")" = 'error: not available yet' ]
+digits() { head -c "$1" /dev/urandom | od -An -v -tx1 | tr -d ' \n'; }
+largest=$(digits 65536)
+printf 'put 1 %s\nout 0\nout 3\nout 9\nout 13\nread 1\n' "$largest" | "$program" 14 10 > "$work/out"
+printf 'ok version 1\nok\nok\nok\nok\nok version 1 %s\n' "$largest" | cmp -s - "$work/out"
 verdict 'an object of 65,536 bytes' $?
+[ "$(printf 'put 1 %s00\n' "$largest" | "$program" 3 2)" = 'refused 1' ]
+verdict 'an object of 65,537 bytes is refused' $?
 
 echo "$passed passed, $failed failed"
 [ "$failed" = 0 ]
