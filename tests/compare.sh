@@ -1,14 +1,14 @@
 #!/usr/bin/env bash
-# Checks the second keeper in reference/ by itself and, where that is turned on, rehearse against it.
+# Checks the second keeper in reference/ by itself, and rehearse against it.
 # Its last line is 'N passed, M failed': tests, planted flaws that were found, and scripts.
 #
-#   SEEDS=1-50000 COMPARE_REHEARSE=1 bash tests/compare.sh     a longer run
+#   SEEDS=1-50000 PATIENCE=3600 bash tests/compare.sh     a longer run
 set -u
 cd "$(dirname "$0")/.." || exit 1
 
-# The switch: 1 compares target/bin/rehearse with the second keeper; 0 leaves that out, for as long
-# as rehearse doesn't play every line. Turned on, a rehearse that isn't there is a failure.
-compare_rehearse=${COMPARE_REHEARSE:-0}
+# The switch: 1 compares target/bin/rehearse with the second keeper, and a rehearse that isn't there is
+# a failure; 0 leaves that out.
+compare_rehearse=${COMPARE_REHEARSE:-1}
 rehearse=${REHEARSE:-target/bin/rehearse}
 # The scripts that are played: always the same, and for at most so many seconds.
 seeds=${SEEDS:-1-4000}
