@@ -2,12 +2,12 @@
 use crate::disks::Disks;
 use crate::fault::Fault;
 use crate::perform::perform_all;
-use table::Keeper;
 use keeper::object::Answer;
 use keeper::object::Entry;
 use keeper::object::Step;
 use keeper::readings::is_holder;
 use std::alloc::Global;
+use table::Keeper;
 
 // How many objects there are, and a number that no drive has.
 const OBJECTS: u64 = 256;

@@ -10,9 +10,9 @@ ghost use Rattle.archive.specs.Deeds.{replaced, deedOf, deedsOf, Leads};
 use crate::disks::Disks;
 use crate::fault::Fault;
 use crate::fault::FaultFromAlloc;
-use table::Keeper;
 use keeper::object::Effect;
 use std::alloc::Global;
+use table::Keeper;
 
 // The keeper's file with this number, and with this bar for the object, takes the place of the one before.
 fn replace_file<D: Disks>(

@@ -62,7 +62,11 @@ fn how_many_below(flags: &[bool], end: usize) -> usize
 fn flags_below(flags: &[bool], end: usize) -> &[bool]
     ensures { λ r. ⌜ now r ≡ take end (now (flags .entry)) ⌝ }
 {
-    if end < flags.len() { &flags[0..end] } else { flags }
+    if end < flags.len() {
+        &flags[0..end]
+    } else {
+        flags
+    }
 }
 
 impl Drives {

@@ -7,12 +7,12 @@ use archive::Fault;
 use archive::FaultFromAlloc;
 use archive::Reply;
 use drives::Drives;
-use table::Keeper;
 use keeper::refusal::Refusal;
 use script::Command;
 use script::StopAt;
 use std::alloc::AllocError;
 use std::alloc::Global;
+use table::Keeper;
 
 const OBJECTS: u64 = 256;
 
