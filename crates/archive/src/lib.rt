@@ -1,4 +1,6 @@
 // The keeper on drives: what a step needs is read, its effects are done one by one, and its answer is told as a line.
+#![tactic(auto)]
+
 mod archive;
 mod count;
 mod disks;

@@ -1,7 +1,7 @@
 -- All definitions that the rows of the table compute with, under one name. The search for the version to settle on isn't one of them: it depends on what
 -- pieces work out to, so it is followed by lemmas.
 -- Assumes nothing.
-use Rattle.bytes.specs.Byte.{mul, times, twice, add, plus}
+use Rattle.byte_field.specs.Byte.{mul, times, twice, add, plus}
 use Rattle.elimination.specs.Polynomial.{value}
 use Rattle.pieces.specs.Rows.{framed, values, rows_for, piece_of}
 use Rattle.slots.specs.Adler.{adler, sums}

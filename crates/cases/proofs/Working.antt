@@ -4,7 +4,7 @@ use Rattle.std.proofs.Common.{◌≡◌, ℕ, ◌<◌, ◌≤◌, T, ltb, leb, L
 use mathlib.Core.List.Memᴰ
 use mathlib.Core.List.{Memᴰ}
 use Rattle.std.specs.List.{AllByRecursion as All}
-use Rattle.bytes.specs.Byte.{IsByte}
+use Rattle.byte_field.specs.Byte.{IsByte}
 use Rattle.elimination.specs.Polynomial.{Bytes}
 use Rattle.pieces.specs.Rows.{MAX, LAST, piece_of}
 use Rattle.keeper.specs.Real.{Fits, WorkOut, WorksOut}

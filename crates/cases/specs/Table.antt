@@ -1,7 +1,7 @@
 -- The table of worked cases: small examples, each with what comes out, by the definitions that the contracts of the code use.
 -- Assumes nothing.
 use Rattle.std.specs.Prelude.{◌≡◌, ℕ, List, [], ◌∷◌, ◌++◌, map, Some, slice_set}
-use Rattle.bytes.specs.Byte.{mul}
+use Rattle.byte_field.specs.Byte.{mul}
 use Rattle.pieces.specs.Rows.{framed, piece_of}
 use Rattle.slots.specs.Layout.{record_of}
 use Rattle.keeper.specs.declared.refusal.Refusal.TheVariants.{TooFewPieces}

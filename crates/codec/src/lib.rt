@@ -1,4 +1,6 @@
 // That there is a codec such as the keeper's contracts speak of, and what the theorem of the whole comes to with it.
+#![tactic(auto)]
+
 ghost use Rattle.codec.specs.Stands.{RealPromise};
 ghost use Rattle.codec.specs.WorkOut.{SomeWorksOut};
 

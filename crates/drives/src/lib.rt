@@ -1,4 +1,6 @@
 // A drive: four slots for each object, read and written through lent parts; and which of the drives are in.
+#![tactic(auto)]
+
 mod laws;
 mod layout;
 mod piece;

@@ -5,9 +5,9 @@ use lib.Arith.{digits_lt}
 use Rattle.std.proofs.lemmas.List.{length-append, length-take, length-take-le, length-drop, get_or-take, get_or-drop}
 use Rattle.std.proofs.lemmas.Slice.{take-put_mid_below, drop-put_mid, between-put_mid}
 use Rattle.std.proofs.lemmas.Bool.{cases_order}
-use Rattle.bytes.specs.Byte.{add, mul}
-use Rattle.bytes.specs.Slices.{add_scaled}
-use Rattle.bytes.proofs.Slices.{length_add_scaled, add_scaled_get_or}
+use Rattle.byte_field.specs.Byte.{add, mul}
+use Rattle.byte_field.specs.Slices.{add_scaled}
+use Rattle.byte_field.proofs.Slices.{length_add_scaled, add_scaled_get_or}
 use Rattle.elimination.specs.Matrix.{cell, RowAdded}
 
 -- A cell stands in its matrix, and so does a row.

@@ -5,7 +5,7 @@ use mathlib.Core.List.{Memᴰ}
 use Rattle.std.proofs.lemmas.List.{at_drop_more, at_drop_all, take_rest}
 use Rattle.std.proofs.ByRecursion.{All-from_get_or}
 use Rattle.std.proofs.lemmas.Bool.{or_parts, or_from, or_left, eqb-false, ne_eqb, eq-eqb, cond-true, cond-false}
-use Rattle.bytes.specs.Byte.{IsByte}
+use Rattle.byte_field.specs.Byte.{IsByte}
 use Rattle.elimination.specs.Polynomial.{Bytes, Distinct}
 use Rattle.elimination.specs.Interpolation.{is_in, repeated, reason}
 

@@ -3,8 +3,8 @@ use Rattle.std.proofs.Common.{◌≡◌, ℕ, suc, ◌≤◌, List, [], ◌∷�
 use mathlib.Core.List.Memᴰ
 use mathlib.Core.List.{Memᴰ}
 use Rattle.std.specs.List.{AllByRecursion as All}
-use Rattle.bytes.specs.Byte.{add, mul, IsByte}
-use Rattle.bytes.proofs.Laws as laws
+use Rattle.byte_field.specs.Byte.{add, mul, IsByte}
+use Rattle.byte_field.proofs.Laws as laws
 use Rattle.elimination.specs.Polynomial.{value, Bytes, Distinct, Determined}
 
 -- A value is a byte.

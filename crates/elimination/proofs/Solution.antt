@@ -6,7 +6,7 @@ use Rattle.std.specs.List.{range_with_len, AllByRecursion as All}
 use Rattle.std.proofs.lemmas.List.{length-append, length-take-le, length-drop, get_or_append_left, get_or-append_right, get_or-take, get_or-drop}
 use Rattle.std.proofs.ByRecursion.{All-append, All-take, All-drop}
 use Rattle.std.proofs.lemmas.List.FromFn.{length-map-range_with_len, get_or-map-range_with_len}
-use Rattle.bytes.specs.Byte.{IsByte}
+use Rattle.byte_field.specs.Byte.{IsByte}
 use Rattle.elimination.specs.Polynomial.{value, Bytes, Distinct}
 use Rattle.elimination.specs.Matrix.{cell, blocks, power, powers, row_of, matrix_of, column, further_columns, combine, Vanishes, Independent, Reduced, Zeros}
 use Rattle.elimination.specs.Interpolation.{Interpolates, width_of}

@@ -5,8 +5,8 @@ use Rattle.std.proofs.lemmas.List.FromFn.{length-map-range_with_len, get_or-map-
 use Rattle.std.proofs.ByRecursion.{All-from_get_or}
 use Rattle.std.proofs.lemmas.Nat.{div_below, mod_below}
 use Rattle.std.proofs.lemmas.Bool.{cases_eq, cases_lt}
-use Rattle.bytes.specs.Byte.{add, mul, inv, IsByte}
-use Rattle.bytes.proofs.Laws as laws
+use Rattle.byte_field.specs.Byte.{add, mul, inv, IsByte}
+use Rattle.byte_field.proofs.Laws as laws
 use Rattle.elimination.specs.Polynomial.{Bytes}
 use Rattle.elimination.specs.Matrix.{cell, column, combine, Vanishes, Independent, Reduced, RowAdded, Led, Cleared, leading}
 use Rattle.elimination.proofs.Combine.{combine_byte, combine_add, combine_same, combine_zero, combine_unit, with_one, with_one_length, with_one_bytes, with_one_some, with_one_combine}

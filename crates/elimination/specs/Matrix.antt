@@ -2,7 +2,7 @@
 -- Assumes nothing.
 use Rattle.std.specs.Prelude.{◌≡◌, ℕ, zero, suc, ◌+◌, ◌*◌, ◌<◌, ◌≤◌, List, [], ◌∷◌, ◌++◌, map, length, take, drop, Some, None, Option, ◌≢◌, slice_index}
 use Rattle.std.specs.List.{range_with_len, AllByRecursion as All}
-use Rattle.bytes.specs.Byte.{add, mul, inv}
+use Rattle.byte_field.specs.Byte.{add, mul, inv}
 use Rattle.elimination.specs.Polynomial.{Bytes}
 
 -- The entry in row i and column t of a matrix whose rows have w entries.

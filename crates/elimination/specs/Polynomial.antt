@@ -3,7 +3,7 @@
 use Rattle.std.specs.Prelude.{◌≡◌, ℕ, ◌≤◌, List, [], ◌∷◌, length}
 use mathlib.Core.List.{Memᴰ}
 use Rattle.std.specs.List.{AllByRecursion as All}
-use Rattle.bytes.specs.Byte.{add, mul, IsByte}
+use Rattle.byte_field.specs.Byte.{add, mul, IsByte}
 
 -- The value at x of the polynomial with these coefficients, that of x to the 0 first.
 unfoldable pub value : List ℕ → ℕ → ℕ

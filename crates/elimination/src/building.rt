@@ -12,7 +12,7 @@ fn push_powers(m: &mut Vec<u8>, x: u8, k: usize) -> Result<(), AllocError>
     let mut next = 1;
     for _t in 0..k {
         m.push(next)?;
-        next = bytes::product(x, next);
+        next = byte_field::product(x, next);
     }
     Ok(())
 }

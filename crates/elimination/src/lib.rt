@@ -1,4 +1,6 @@
 // Polynomials over bytes, and their coefficients worked out of their values by elimination.
+#![tactic(auto)]
+
 ghost use Rattle.std.specs.Prelude.{◌≡◌, ◌*◌, ◌<◌, length, IfOk, MatchResult};
 ghost use Rattle.elimination.specs.Interpolation.{number, is_in, repeated, reason, Interpolates, Solved};
 ghost use Rattle.elimination.specs.Polynomial.{Bytes, Distinct, Determined};

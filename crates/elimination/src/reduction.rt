@@ -24,8 +24,8 @@ fn lead(m: &mut [u8], row: &mut [u8], w: usize, q: usize, p: usize)
     requires pivot { 1 ≤ cell w m.old p q }
     ensures { Led w q p m.old m.new }
 {
-    let wanting = bytes::sum(1, entry(m, w, q, q));
-    let Some(factor) = bytes::quotient(wanting, entry(m, w, p, q)) else {
+    let wanting = byte_field::sum(1, entry(m, w, q, q));
+    let Some(factor) = byte_field::quotient(wanting, entry(m, w, p, q)) else {
         unreachable()
     };
     copy_row(row, m, w, p);

@@ -23,5 +23,5 @@ pub fn add_row(m: &mut [u8], w: usize, i: usize, factor: u8, source: &[u8])
     requires { (i * w + w ≤ length m.old) × (length source.now ≡ w) }
     ensures { RowAdded w i factor source.now m.old m.new }
 {
-    bytes::add_scaled(&mut m[i * w..i * w + w], factor, source);
+    byte_field::add_scaled(&mut m[i * w..i * w + w], factor, source);
 }

@@ -1,4 +1,6 @@
 // The keeper's steps on one object: what is told, what is to be done outside, and the state afterwards.
+#![tactic(auto)]
+
 mod clearing;
 mod content;
 mod found;

@@ -4,7 +4,7 @@ use native.Mathlib.Nat.{div-div-eq-div-mul}
 use Rattle.std.proofs.lemmas.List.{length-append, length-replicate, append_assoc, replicate_more, take_at, drop_at, drop-drop, take-append-drop, length-take-le, length-drop}
 use Rattle.std.specs.List.{AllByRecursion as All}
 use Rattle.std.proofs.ByRecursion.{All-append}
-use Rattle.bytes.specs.Byte.{IsByte}
+use Rattle.byte_field.specs.Byte.{IsByte}
 use Rattle.elimination.specs.Polynomial.{Bytes}
 use Rattle.pieces.specs.Given.{length_in, IsZero, Long, Filled}
 use Rattle.pieces.specs.Rows.{MAX, rows_for, framed, length_bytes}

@@ -6,7 +6,7 @@ use native.Mathlib.Nat.{mul-div_cancel_left, mul-mod_right}
 use Rattle.std.specs.List.{flat_map, AllByRecursion as All}
 use Rattle.std.proofs.lemmas.List.{length-append, length-map, get_or_append_left, get_or-append_right}
 use Rattle.std.proofs.lemmas.Bool.{ne_eqb, eq-eqb, both_ways}
-use Rattle.bytes.specs.Byte.{IsByte}
+use Rattle.byte_field.specs.Byte.{IsByte}
 use Rattle.elimination.specs.Interpolation.{Solved, reason, repeated, width_of, number}
 use Rattle.elimination.specs.Polynomial.{value, Bytes, Distinct}
 use Rattle.elimination.specs.declared.Unsolved.{Unsolved}

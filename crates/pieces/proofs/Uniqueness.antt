@@ -5,7 +5,7 @@ use mathlib.Core.List.{Memᴰ}
 use Rattle.std.specs.List.{AllByRecursion as All}
 use Rattle.std.proofs.ByRecursion.{All-take, All-drop}
 use Rattle.std.proofs.lemmas.List.{length-map, length-take}
-use Rattle.bytes.specs.Byte.{IsByte}
+use Rattle.byte_field.specs.Byte.{IsByte}
 use Rattle.std.specs.declared.alloc.Global.{Global}
 use Rattle.elimination.specs.Polynomial.{Bytes, Distinct}
 use Rattle.pieces.specs.Given.{IsNeed, IsDrive, IsZero, drives, parts, pieces_of, width, Sound, RowsOf, Worked, Long, Filled, length_in}

@@ -6,7 +6,7 @@ use Rattle.std.proofs.lemmas.Nat.{mul-le}
 use Rattle.std.proofs.ByRecursion.{All-take, All-drop}
 use Rattle.elimination.specs.Polynomial.{value, Bytes, Distinct}
 use Rattle.elimination.proofs.Roots.{determined}
-use Rattle.bytes.specs.Byte.{IsByte, add, mul}
+use Rattle.byte_field.specs.Byte.{IsByte, add, mul}
 use Rattle.pieces.specs.Rows.{values}
 
 pub length_values : (need rows x : ℕ) (flat : List ℕ) → length (values need rows x flat) ≡ rows

@@ -1,4 +1,6 @@
 // Pieces of an object, one for each drive, and the object worked out of enough of them.
+#![tactic(auto)]
+
 mod errors;
 mod examining;
 mod making;

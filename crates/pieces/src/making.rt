@@ -1,6 +1,6 @@
 // Making a drive's piece of an object.
 ghost use Rattle.std.specs.Prelude.{◌≡◌, ℕ, ◌+◌, ◌*◌, ◌<◌, ◌≤◌, length, replicate, IfOk, MatchResult, slice_index};
-ghost use Rattle.bytes.specs.Byte.{add, mul};
+ghost use Rattle.byte_field.specs.Byte.{add, mul};
 ghost use Rattle.pieces.specs.Refusals.{Made, NotMade};
 ghost use Rattle.pieces.specs.Rows.{framed, rows_for, values};
 
@@ -82,7 +82,7 @@ fn scale(piece: &mut [u8], x: u8)
     ensures { (r : ℕ) → r < length piece.old → slice_index piece.new r ≡ mul x (slice_index piece.old r) }
 {
     for value in piece.iter_mut() {
-        *value = bytes::product(x, *value);
+        *value = byte_field::product(x, *value);
     }
 }
 
@@ -91,6 +91,6 @@ fn add_column(piece: &mut [u8], need: usize, column: usize, flat: &[u8])
     ensures { (r : ℕ) → r < length piece.old → slice_index piece.new r ≡ add (slice_index flat.now (r * need + column)) (slice_index piece.old r) }
 {
     for (r, value) in piece.iter_mut().enumerate() {
-        *value = bytes::sum(flat[r * need + column], *value);
+        *value = byte_field::sum(flat[r * need + column], *value);
     }
 }

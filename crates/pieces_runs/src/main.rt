@@ -1,4 +1,6 @@
 // Runs pieces through making, losing and working out, and prints a line for each group.
+#![tactic(auto)]
+
 use pieces::{Piece, PieceError, make, remake, work_out};
 use std::alloc::Global;
 use std::io;

@@ -1,4 +1,6 @@
 // What the keeper's steps come to over whole runs, through stops, lost drives and drives that come back. The theorems stand on the contracts of small functions.
+#![tactic(auto)]
+
 ghost use Rattle.recovery.specs.Promise.{Safety, Onward, TakesHighest};
 ghost use Rattle.recovery.specs.Progress.{GoesOn};
 ghost use Rattle.recovery.specs.Store.{StoreSafety};

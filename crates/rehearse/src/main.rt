@@ -1,4 +1,6 @@
 // Plays lines on drives in memory: `rehearse N NEED`, one command a line on standard input, one answer each.
+#![tactic(auto)]
+
 mod memory;
 mod rehearsal;
 mod setup;

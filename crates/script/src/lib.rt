@@ -1,4 +1,6 @@
 // Lines to commands, and bytes to hexadecimal text: what every program here reads and writes.
+#![tactic(auto)]
+
 mod arguments;
 mod command;
 mod digits;

@@ -1,4 +1,6 @@
 // One slot: the bytes by which a piece of a version of an object lies on a drive, with Adler's sum.
+#![tactic(auto)]
+
 mod laws;
 mod slot;
 mod sum;

@@ -1,4 +1,6 @@
 // Runs of slots: Adler's sums of many inputs, to be compared with those of another implementation (tests/adler.sh), and every change of one byte of a written slot.
+#![tactic(auto)]
+
 use slots::{adler, read, write};
 use std::io;
 

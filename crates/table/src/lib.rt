@@ -1,4 +1,6 @@
 // The keeper of all objects: the table of their states, the steps on each, and the keeper's file.
+#![tactic(auto)]
+
 mod calls;
 mod file;
 mod objects;

@@ -1,7 +1,7 @@
 -- A power more is pushed.
 use Rattle.std.proofs.Common.{ℕ, List, [], ◌∷◌, ◌++◌, vec_items, sym, refl, ap, ◌∙◌, ap₂, add-one, arith}
 use Rattle.std.proofs.lemmas.List.{append-nil}
-use Rattle.bytes.specs.Byte.{mul}
+use Rattle.byte_field.specs.Byte.{mul}
 use Rattle.elimination.specs.Matrix.{power}
 use Rattle.elimination.proofs.Blocks.{counted_more}
 use Rattle.elimination.proofs.building.push_powers.Goals as goal

@@ -1,5 +1,5 @@
 use Rattle.std.proofs.Common.{◌≡◌, ℕ, ◌+◌, ◌*◌, ◌<◌, ◌≤◌, get_or}
-use Rattle.bytes.specs.Byte.{add}
+use Rattle.byte_field.specs.Byte.{add}
 use Rattle.pieces.proofs.making.add_column.Given as goal
 
 -- The rows before r are done, and the others are as they were.

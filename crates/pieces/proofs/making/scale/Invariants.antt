@@ -1,5 +1,5 @@
 use Rattle.std.proofs.Common.{◌≡◌, ℕ, ◌<◌, ◌≤◌, get_or}
-use Rattle.bytes.specs.Byte.{mul}
+use Rattle.byte_field.specs.Byte.{mul}
 use Rattle.pieces.proofs.making.scale.Given as goal
 
 -- The rows before the present one are done, and the others are as they were.

@@ -1,5 +1,5 @@
 use Rattle.std.proofs.Common.{◌+◌, ◌*◌, get_or, ap, ◌∙◌, arith}
-use Rattle.bytes.specs.Byte.{add}
+use Rattle.byte_field.specs.Byte.{add}
 use Rattle.pieces.proofs.making.step.Goals as goal
 
 pub returns : goal.returns

@@ -1,6 +1,0 @@
-// Arithmetic with bytes in which every byte but 0 can be divided by.
-mod field;
-mod scaled;
-
-pub use field::{field_stands, inverse, product, quotient, sum};
-pub use scaled::add_scaled;
