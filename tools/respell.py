@@ -74,6 +74,16 @@ def own_names():
     return {name for name in found if not MADE.match(name)}, fields
 
 
+def library_names(text):
+    """The names that a file has from the library: one of the repository's own may be spelled alike."""
+    found = set()
+    for line in text.split("\n"):
+        m = re.match(r"(?:pub |ghost )?use (?:Rattle\.std|borrow|lib|mathlib|Prim|logic)\b[\w.]*\.\{(.*)\}", line)
+        if m:
+            found.update(name.split(" as ")[0] for name in re.split(r"\s*,\s*", m.group(1)))
+    return found
+
+
 def hump(part):
     """placeFor: place_for; a part that begins with a capital names a type or a variant and stays."""
     if part in LIBRARY:
@@ -106,10 +116,13 @@ class Speller:
         self.own, self.fields = own_names()
         self.seen = {}
         self.crate = ""
+        self.library = set()
 
     def turn(self, text):
         def one(m):
             old = m.group(0)
+            if old in self.library:
+                return old
             new = respelled(old, self.own, self.fields, self.crate, m.start() > 0 and text[m.start() - 1] == ".")
             if new != old:
                 self.seen.setdefault(old, set()).add(new)
@@ -139,6 +152,7 @@ def main(argv):
         with open(path, encoding="utf-8") as f:
             text = f.read()
         speller.crate = path.split(os.sep)[1]
+        speller.library = library_names(text)
         new = speller.antt(text) if path.endswith(".antt") else speller.rt(text)
         if new != text:
             changes.append((path, new))
