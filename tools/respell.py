@@ -117,13 +117,16 @@ class Speller:
         self.seen = {}
         self.crate = ""
         self.library = set()
+        self.modules = set()
 
     def turn(self, text):
         def one(m):
             old = m.group(0)
             if old in self.library:
                 return old
-            new = respelled(old, self.own, self.fields, self.crate, m.start() > 0 and text[m.start() - 1] == ".")
+            owner = re.search(r"([A-Za-z][\w'-]*)\.$", text[: m.start()])
+            is_field = m.start() > 0 and text[m.start() - 1] == "." and not (owner and owner.group(1) in self.modules)
+            new = respelled(old, self.own, self.fields, self.crate, is_field)
             if new != old:
                 self.seen.setdefault(old, set()).add(new)
             return new
@@ -153,6 +156,7 @@ def main(argv):
             text = f.read()
         speller.crate = path.split(os.sep)[1]
         speller.library = library_names(text)
+        speller.modules = set(re.findall(r"^use [\w.+]+ as (\w+)$", text, re.M)) - {"goal", "given"}
         new = speller.antt(text) if path.endswith(".antt") else speller.rt(text)
         if new != text:
             changes.append((path, new))

@@ -1,6 +1,6 @@
 -- The product is linear on both sides, so that it is determined by the bytes with one bit.
 -- Assumes nothing.
-use Rattle.std.proofs.Common.{◌≡◌, ℕ, zero, suc, ◌+◌, ◌-◌, ◌*◌, ◌/◌, ◌%◌, ◌^◌, ◌<◌, ◌≤◌, Bool, true, false, cond, eqb, ltb, sym, refl, ap, ◌∙◌, ap₂, ⊎_elim, add_zero as nat_add_zero, one_mul, pow-suc, arith, ltb→lt, pow_mono}
+use Rattle.std.proofs.Common.{◌≡◌, ℕ, zero, suc, ◌+◌, ◌-◌, ◌*◌, ◌/◌, ◌%◌, ◌^◌, ◌<◌, ◌≤◌, Bool, true, false, cond, eqb, ltb, sym, refl, ap, ◌∙◌, ap₂, ⊎_elim, add-zero as nat_add_zero, one-mul, pow-suc, arith, ltb→lt, pow_mono}
 use lib.Bits.{bit_xor, xor_block, xor_shr, xor_shifted, xor_assoc, xor_comm}
 use Rattle.std.proofs.lemmas.Bool.{cases_lt}
 use Rattle.byte_field.specs.Byte.{plus, add, twice, times, mul, IsByte}
@@ -104,7 +104,7 @@ split_top n a hn low high =
     let top : 2 ^ n ≤ 128 = pow_mono {i = n} {j = 7} (omega arith) in
     let less : a - 2 ^ n < 2 ^ n = omega arith in
     let apart : bit_xor (1 * 2 ^ n) (a - 2 ^ n) ≡ 1 * 2 ^ n + (a - 2 ^ n) = xor_shifted 1 n (a - 2 ^ n) less in
-    let whole : bit_xor (2 ^ n) (a - 2 ^ n) ≡ a = ap (λ x. bit_xor x (a - 2 ^ n)) (sym (one_mul (2 ^ n))) ∙ apart ∙ omega arith in
+    let whole : bit_xor (2 ^ n) (a - 2 ^ n) ≡ a = ap (λ x. bit_xor x (a - 2 ^ n)) (sym (one-mul (2 ^ n))) ∙ apart ∙ omega arith in
     (less, omega arith, omega arith, byte_xor (2 ^ n) (a - 2 ^ n) (omega arith) (omega arith) ∙ whole)
 
 upto : (f g : ℕ → ℕ) → Linear f → Linear g → ((i : ℕ) → i < 8 → f (2 ^ i) ≡ g (2 ^ i)) → (n : ℕ) → n ≤ 8 → (a : ℕ) → a < 2 ^ n → f a ≡ g a

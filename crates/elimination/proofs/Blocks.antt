@@ -1,5 +1,5 @@
 -- Blocks of one length, one after the other: where each stands, and that they make up the list.
-use Rattle.std.proofs.Common.{◌≡◌, ℕ, zero, suc, ◌+◌, ◌-◌, ◌*◌, ◌/◌, ◌%◌, ◌<◌, ◌≤◌, List, [], ◌∷◌, ◌++◌, map, length, get_or, take, drop, sym, refl, ap, ◌∙◌, inl, inr, mul-le-mul_right, suc-mul, div-add-mod', zero_mul, add-one, arith}
+use Rattle.std.proofs.Common.{◌≡◌, ℕ, zero, suc, ◌+◌, ◌-◌, ◌*◌, ◌/◌, ◌%◌, ◌<◌, ◌≤◌, List, [], ◌∷◌, ◌++◌, map, length, get_or, take, drop, sym, refl, ap, ◌∙◌, inl, inr, mul-le-mul_right, suc-mul, div-add-mod', zero-mul, add-one, arith}
 use Rattle.std.specs.List.{range_with_len, AllByRecursion as All}
 use Rattle.std.proofs.lemmas.List.{length-append, length-take-le, take-append-le, drop-append-le, drop_at, take_all, get_or-take, get_or-drop, ext_get_or, length-drop, append_assoc}
 use Rattle.std.proofs.lemmas.List.FromFn.{map-range_with_len_more}
@@ -11,7 +11,7 @@ use Rattle.elimination.specs.Matrix.{blocks}
 module _ (f : ℕ → List ℕ) (w : ℕ) where
   pub length_blocks : (n : ℕ) → ((i : ℕ) → i < n → length (f i) ≡ w) → length (blocks f n) ≡ n * w
   unfolding blocks
-  length_blocks zero each = sym (zero_mul w)
+  length_blocks zero each = sym (zero-mul w)
   length_blocks (suc n) each =
       let more : length (blocks f n) ≡ n * w = length_blocks n (λ i h. each i (omega arith)) in
       let last : length (f n) ≡ w = each n (omega arith) in

@@ -11,7 +11,7 @@ use Rattle.elimination.specs.Polynomial.{value, Bytes, Distinct, Determined}
 pub value_byte : (cs : List ℕ) (x : ℕ) → IsByte (value cs x)
 unfolding value
 value_byte [] x = omega arith
-value_byte (c ∷ cs) x = laws.add-byte c (mul x (value cs x))
+value_byte (c ∷ cs) x = laws.add_byte c (mul x (value cs x))
 
 -- All coefficients are 0.
 abbrev pub Zeros : List ℕ → Type 0
@@ -35,7 +35,7 @@ down_bytes a (c ∷ cs) = (value_byte (c ∷ cs) a, down_bytes a cs)
 -- A term added twice goes out.
 add_twice : (c p q s : ℕ) → IsByte q → add (add c p) (add (add q p) s) ≡ add c (add q s)
 add_twice c p q s hq =
-    cc (laws.add_assoc c p (add (add q p) s), laws.add_assoc p (add q p) s, laws.add_comm q p, laws.add_assoc p p q, laws.add-self p, laws.zero-add q hq)
+    cc (laws.add_assoc c p (add (add q p) s), laws.add_assoc p (add q p) s, laws.add_comm q p, laws.add_assoc p p q, laws.add_self p, laws.zero_add q hq)
 
 -- One step of the division, of numbers.
 divide_step :
@@ -43,13 +43,13 @@ divide_step :
     add c (mul x X) ≡ add (add c (mul a A)) (mul (add x a) (add A (mul x D)))
 divide_step a x c A D X ha hx h_a h_d e =
     let xa = add x a in
-    let hxa = laws.add-byte x a in
-    let hq = laws.mul-byte x A in
+    let hxa = laws.add_byte x a in
+    let hq = laws.mul_byte x A in
     let swap : mul xa (mul x D) ≡ mul x (mul xa D) =
     sym (laws.mul_assoc xa x D hxa hx h_d) ∙ ap (λ (y : ℕ). mul y D) (laws.mul_comm xa x hxa hx) ∙ laws.mul_assoc x xa D hx hxa h_d in
-    let left : mul x X ≡ add (mul x A) (mul x (mul xa D)) = ap (λ (y : ℕ). mul x y) e ∙ laws.mul-add x A (mul xa D) in
+    let left : mul x X ≡ add (mul x A) (mul x (mul xa D)) = ap (λ (y : ℕ). mul x y) e ∙ laws.mul_add x A (mul xa D) in
     let right : mul xa (add A (mul x D)) ≡ add (add (mul x A) (mul a A)) (mul x (mul xa D)) =
-    laws.mul-add xa A (mul x D) ∙ cc (laws.add-mul x a A hx ha, swap) in
+    laws.mul_add xa A (mul x D) ∙ cc (laws.add_mul x a A hx ha, swap) in
     cc (left, right, add_twice c (mul a A) (mul x A) (mul x (mul xa D)) hq)
 
 -- A polynomial is its value at `a`, and (x + a) times what is left when `a` is divided out.
@@ -58,7 +58,7 @@ pub divide :
     value (c ∷ cs) x ≡ add (value (c ∷ cs) a) (mul (add x a) (value (down a cs) x))
 unfolding value down
 divide a x c [] ha hx hc hcs =
-    cc (laws.mul-zero x, laws.mul-zero a, laws.mul-zero (add x a), laws.add-zero c hc)
+    cc (laws.mul_zero x, laws.mul_zero a, laws.mul_zero (add x a), laws.add_zero c hc)
 divide a x c (d ∷ ds) ha hx hc hcs =
     divide_step a x c (value (d ∷ ds) a) (value (down a ds) x) (value (d ∷ ds) x) ha hx (value_byte (d ∷ ds) a) (value_byte (down a ds) x)
     (divide a x d ds ha hx hcs.0 hcs.1)
@@ -67,7 +67,7 @@ divide a x c (d ∷ ds) ha hx hc hcs =
 pub zeros_value : (cs : List ℕ) (x : ℕ) → Zeros cs → value cs x ≡ 0
 unfolding value
 zeros_value [] x h = refl
-zeros_value (c ∷ cs) x h = cc (h.0, zeros_value cs x h.1, laws.mul-zero x, laws.add-self 0)
+zeros_value (c ∷ cs) x h = cc (h.0, zeros_value cs x h.1, laws.mul_zero x, laws.add_self 0)
 
 -- Where nothing is left, nothing was there.
 pub down_zeros : (a : ℕ) (cs : List ℕ) → Bytes cs → Zeros (down a cs) → Zeros cs
@@ -75,7 +75,7 @@ unfolding down value
 down_zeros a [] b h = tt
 down_zeros a (c ∷ cs) b h =
     let rest = down_zeros a cs b.1 h.1 in
-    (cc (h.0, zeros_value cs a rest, laws.mul-zero a, laws.add-zero c b.0), rest)
+    (cc (h.0, zeros_value cs a rest, laws.mul_zero a, laws.add_zero c b.0), rest)
 
 -- What all elements are, a member is.
 pub all_mem : (P : ℕ → Type 0) (xs : List ℕ) (x : ℕ) → All P xs → Memᴰ x xs → P x
@@ -90,9 +90,9 @@ root_left :
 root_left a x c cs ha hx hc hcs ne za zx =
     let V = value (down a cs) x in
     let h_v = value_byte (down a cs) x in
-    let hxa = laws.add-byte x a in
-    let none : mul (add x a) V ≡ 0 = cc (divide a x c cs ha hx hc hcs, za, zx, laws.zero-add (mul (add x a) V) (laws.mul-byte (add x a) V)) in
-    elim (laws.mul-is-zero (add x a) V hxa h_v none) [ inl e ↦ absurd (ne (sym (laws.add-is-zero x a hx ha e))) | inr e ↦ e ]
+    let hxa = laws.add_byte x a in
+    let none : mul (add x a) V ≡ 0 = cc (divide a x c cs ha hx hc hcs, za, zx, laws.zero_add (mul (add x a) V) (laws.mul_byte (add x a) V)) in
+    elim (laws.mul_is_zero (add x a) V hxa h_v none) [ inl e ↦ absurd (ne (sym (laws.add_is_zero x a hx ha e))) | inr e ↦ e ]
 
 -- A polynomial with at most as many coefficients as it has different roots has only zeros.
 pub few_roots :
@@ -124,16 +124,16 @@ pub sums_bytes : (cs ds : List ℕ) → Bytes (sums cs ds)
 unfolding sums
 sums_bytes [] ds = tt
 sums_bytes (c ∷ cs) [] = tt
-sums_bytes (c ∷ cs) (d ∷ ds) = (laws.add-byte c d, sums_bytes cs ds)
+sums_bytes (c ∷ cs) (d ∷ ds) = (laws.add_byte c d, sums_bytes cs ds)
 
 pub sums_value : (cs ds : List ℕ) (x : ℕ) → IsByte x → length cs ≡ length ds → value (sums cs ds) x ≡ add (value cs x) (value ds x)
 unfolding sums value
-sums_value [] [] x hx e = sym (laws.add-self 0)
+sums_value [] [] x hx e = sym (laws.add_self 0)
 sums_value [] (d ∷ ds) x hx e = absurd (omega arith)
 sums_value (c ∷ cs) [] x hx e = absurd (omega arith)
 sums_value (c ∷ cs) (d ∷ ds) x hx e =
     let more : value (sums cs ds) x ≡ add (value cs x) (value ds x) = sums_value cs ds x hx (omega arith) in
-    cc (more, laws.mul-add x (value cs x) (value ds x), laws.add-swap c d (mul x (value cs x)) (mul x (value ds x)))
+    cc (more, laws.mul_add x (value cs x) (value ds x), laws.add_swap c d (mul x (value cs x)) (mul x (value ds x)))
 
 pub sums_zeros : (cs ds : List ℕ) → Bytes cs → Bytes ds → length cs ≡ length ds → Zeros (sums cs ds) → cs ≡ ds
 unfolding sums
@@ -141,11 +141,11 @@ sums_zeros [] [] b b' e z = refl
 sums_zeros [] (d ∷ ds) b b' e z = absurd (omega arith)
 sums_zeros (c ∷ cs) [] b b' e z = absurd (omega arith)
 sums_zeros (c ∷ cs) (d ∷ ds) b b' e z =
-    ap₂ ◌∷◌ (laws.add-is-zero c d b.0 b'.0 z.0) (sums_zeros cs ds b.1 b'.1 (omega arith) z.1)
+    ap₂ ◌∷◌ (laws.add_is_zero c d b.0 b'.0 z.0) (sums_zeros cs ds b.1 b'.1 (omega arith) z.1)
 
 -- Polynomials with the same values at enough different points are the same.
 pub determined : Determined
 determined cs ds xs b b' bx d e h same =
     sums_zeros cs ds b b' e
     (few_roots (sums cs ds) xs (sums_bytes cs ds) bx d (omega (arith, sums_length cs ds e))
-    (λ x m. sums_value cs ds x (all_mem IsByte xs x bx m) e ∙ ap (λ (v : ℕ). add v (value ds x)) (same x m) ∙ laws.add-self (value ds x)))
+    (λ x m. sums_value cs ds x (all_mem IsByte xs x bx m) e ∙ ap (λ (v : ℕ). add v (value ds x)) (same x m) ∙ laws.add_self (value ds x)))

@@ -1,5 +1,5 @@
 -- What one turn of the elimination keeps, and what follows when a pivot is wanting or all columns are reduced.
-use Rattle.std.proofs.Common.{◌≡◌, ℕ, zero, suc, ◌+◌, ◌*◌, ◌/◌, ◌%◌, ◌<◌, ◌≤◌, ◌⊎◌, List, [], ◌∷◌, map, length, get_or, sym, refl, ap, ◌∙◌, subst, inl, inr, add_zero, div-add-mod', arith}
+use Rattle.std.proofs.Common.{◌≡◌, ℕ, zero, suc, ◌+◌, ◌*◌, ◌/◌, ◌%◌, ◌<◌, ◌≤◌, ◌⊎◌, List, [], ◌∷◌, map, length, get_or, sym, refl, ap, ◌∙◌, subst, inl, inr, add-zero, div-add-mod', arith}
 use Rattle.std.specs.List.{range_with_len}
 use Rattle.std.proofs.lemmas.List.FromFn.{length-map-range_with_len, get_or-map-range_with_len}
 use Rattle.std.proofs.ByRecursion.{All-from_get_or}
@@ -51,16 +51,16 @@ module _ (k w q : ℕ) (first m : List ℕ) (red : Reduced k w q first m) where
                 let picks : combine zs (cell w m i) ≡ get_or zs i 0 =
                 combine_unit zs (cell w m i) i (column_bytes c) (omega arith) (red.one i l) (λ t lt ne. red.none i t hi (omega arith) ne) in
                 let reads : get_or zs i 0 ≡ cell w m i c = get_or-map-range_with_len (λ i. cell w m i c) 0 q i i 0 l (omega arith) in
-                cc (split, picks, reads, last, laws.add-self (cell w m i c))
+                cc (split, picks, reads, last, laws.add_self (cell w m i c))
             | inr l ↦
                 let zeros : combine zs (cell w m i) ≡ 0 = combine_zero zs (cell w m i) (λ t lt. red.none i t hi (omega arith) (λ e. omega arith)) in
-                cc (split, zeros, below i l hi, last, laws.add-self 0)
+                cc (split, zeros, below i l hi, last, laws.add_self 0)
           ]
 
   -- While columns are left a pivot is found.
   pub pivot_there : q < k → k ≤ w → Independent k w first → ((i : ℕ) → q ≤ i → i < k → cell w m i q ≡ 0) → ⊥
   pivot_there hq hk ind below =
-      let below' : (i : ℕ) → q ≤ i → i < k → cell w m i (q + 0) ≡ 0 = λ i l h. rw add_zero (below i l h) in
+      let below' : (i : ℕ) → q ≤ i → i < k → cell w m i (q + 0) ≡ 0 = λ i l h. rw add-zero (below i l h) in
       let zs : List ℕ = column q w m (q + 0) in
       let long : length zs ≡ q = length-map-range_with_len (λ i. cell w m i (q + 0)) 0 q in
       let long' : length (with_one zs 0) ≡ suc (length zs + 0) = with_one_length zs 0 in
@@ -83,7 +83,7 @@ solved k w first m red bf r hr i hi =
     let split : combine (with_one zs r) (cell w first i) ≡ add (combine zs (cell w first i)) (cell w first i (length zs + r)) =
     with_one_combine zs r (cell w first i) (byte_at first (i * w + (length zs + r)) bf) in
     let last : cell w first i (length zs + r) ≡ cell w first i (k + r) = ap (λ (n : ℕ). cell w first i (n + r)) long in
-    laws.add-is-zero (combine zs (cell w first i)) (cell w first i (k + r)) (combine_byte zs (cell w first i)) (byte_at first (i * w + (k + r)) bf)
+    laws.add_is_zero (combine zs (cell w first i)) (cell w first i (k + r)) (combine_byte zs (cell w first i)) (byte_at first (i * w + (k + r)) bf)
     (cc (zero', split, last))
 
 byte_of : {a b : ℕ} → a ≡ b → IsByte b → IsByte a
@@ -92,28 +92,28 @@ byte_of e h = omega arith
 -- What a quotient is for.
 quotient_is : (a p : ℕ) → IsByte a → IsByte p → 1 ≤ p → mul (mul a (inv p)) p ≡ a
 quotient_is a p ha hp some =
-    cc (laws.mul_assoc a (inv p) p ha (laws.inv-byte p) hp, laws.mul_comm (inv p) p (laws.inv-byte p) hp, laws.mul-inv p hp some, laws.mul-one a ha)
+    cc (laws.mul_assoc a (inv p) p ha (laws.inv_byte p) hp, laws.mul_comm (inv p) p (laws.inv_byte p) hp, laws.mul_inv p hp some, laws.mul_one a ha)
 
 -- What is added to 1 more is 1.
 add_next : (a : ℕ) → add a (add 1 a) ≡ 1
-add_next a = cc (laws.add_comm a (add 1 a), laws.add_assoc 1 a a, laws.add-self a, laws.add-zero 1 (omega arith))
+add_next a = cc (laws.add_comm a (add 1 a), laws.add_assoc 1 a a, laws.add_self a, laws.add_zero 1 (omega arith))
 
 -- A number that vanishes when (1 + a) / a times it is added to it was 0.
 own_row : (a s x : ℕ) → IsByte a → IsByte s → IsByte x → mul s a ≡ add 1 a → add x (mul s x) ≡ 0 → x ≡ 0
 own_row a s x ha hs hx quotient zero' =
-    let product : mul (add 1 s) x ≡ 0 = cc (laws.add-mul 1 s x (omega arith) hs, laws.one-mul x hx, zero') in
-    elim (laws.mul-is-zero (add 1 s) x (laws.add-byte 1 s) hx product) [
+    let product : mul (add 1 s) x ≡ 0 = cc (laws.add_mul 1 s x (omega arith) hs, laws.one_mul x hx, zero') in
+    elim (laws.mul_is_zero (add 1 s) x (laws.add_byte 1 s) hx product) [
       | inl e ↦
-          let s-one : 1 ≡ s = laws.add-is-zero 1 s (omega arith) hs e in
-          let same : a ≡ add 1 a = cc (s-one, quotient, laws.one-mul a ha) in
-          let nought : ◌≡◌ {A = ℕ} 0 1 = cc (add_next a, laws.add-self a, same) in
+          let s-one : 1 ≡ s = laws.add_is_zero 1 s (omega arith) hs e in
+          let same : a ≡ add 1 a = cc (s-one, quotient, laws.one_mul a ha) in
+          let nought : ◌≡◌ {A = ℕ} 0 1 = cc (add_next a, laws.add_self a, same) in
           absurd (omega arith)
       | inr e ↦ e
     ]
 
 -- A row that vanishes once a vanishing row was added vanished before.
 vanished : (x y s z : ℕ) → IsByte x → z ≡ add x (mul s y) → z ≡ 0 → y ≡ 0 → x ≡ 0
-vanished x y s z hx e ez ey = cc (e, ez, ey, laws.mul-zero s, laws.add-zero x hx)
+vanished x y s z hx e ez ey = cc (e, ez, ey, laws.mul_zero s, laws.add_zero x hx)
 
 module _ (k w q p : ℕ) (first m m' : List ℕ) (red : Reduced k w q first m) (led : Led w q p m m') (hk : k ≤ w) (hq : q ≤ p) (hp : p < k) (some : 1 ≤ cell w m p q) where
   abbrev s : ℕ
@@ -123,10 +123,10 @@ module _ (k w q p : ℕ) (first m m' : List ℕ) (red : Reduced k w q first m) (
   byte i t = byte_at m (i * w + t) red.bytes
 
   s_byte : IsByte s
-  s_byte = laws.mul-byte (add 1 (cell w m q q)) (inv (cell w m p q))
+  s_byte = laws.mul_byte (add 1 (cell w m q q)) (inv (cell w m p q))
 
   s_is : mul s (cell w m p q) ≡ add 1 (cell w m q q)
-  s_is = quotient_is (add 1 (cell w m q q)) (cell w m p q) (laws.add-byte 1 (cell w m q q)) (byte p q) some
+  s_is = quotient_is (add 1 (cell w m q q)) (cell w m p q) (laws.add_byte 1 (cell w m q q)) (byte p q) some
 
   -- The entry on the diagonal is 1 now.
   pub led_one : cell w m' q q ≡ 1
@@ -167,7 +167,7 @@ module _ (k w q p : ℕ) (first m m' : List ℕ) (red : Reduced k w q first m) (
       bytes : (i t : ℕ) → t < w → IsByte (cell w m' i t)
       bytes i t ht =
           elim (cases_eq i q) [
-            | inl e ↦ byte_of (ap (λ (j : ℕ). cell w m' j t) e ∙ led.there t ht) (laws.add-byte (cell w m q t) (mul s (cell w m p t)))
+            | inl e ↦ byte_of (ap (λ (j : ℕ). cell w m' j t) e ∙ led.there t ht) (laws.add_byte (cell w m q t) (mul s (cell w m p t)))
             | inr ne ↦ byte_of (led.elsewhere i t ht ne) (byte i t)
           ]
 
@@ -177,7 +177,7 @@ module _ (k w q p : ℕ) (first m m' : List ℕ) (red : Reduced k w q first m) (
             | inl e ↦
                 let zero-q : cell w m q t ≡ 0 = red.none q t (omega arith) ht (λ e'. omega arith) in
                 let zero-p : cell w m p t ≡ 0 = red.none p t hp ht (λ e'. omega arith) in
-                let here : cell w m' q t ≡ 0 = cc (led.there t (omega arith), zero-q, zero-p, laws.mul-zero s, laws.add-self 0) in
+                let here : cell w m' q t ≡ 0 = cc (led.there t (omega arith), zero-q, zero-p, laws.mul_zero s, laws.add_self 0) in
                 ap (λ (j : ℕ). cell w m' j t) e ∙ here
             | inr ne' ↦ led.elsewhere i t (omega arith) ne' ∙ red.none i t hi ht ne
           ]
@@ -209,7 +209,7 @@ cleared_reduced k w q first m m' red clear one-q hq hk =
     bytes i t hi ht =
         elim (cases_eq i q) [
           | inl e ↦ byte_of (ap (λ (j : ℕ). cell w m' j t) e ∙ clear.same t ht) (byte q t)
-          | inr ne ↦ byte_of (clear.there i t hi ht ne) (laws.add-byte (cell w m i t) (mul (cell w m i q) (cell w m q t)))
+          | inr ne ↦ byte_of (clear.there i t hi ht ne) (laws.add_byte (cell w m i t) (mul (cell w m i q) (cell w m q t)))
         ]
 
     one : (i : ℕ) → i < q + 1 → cell w m' i i ≡ 1
@@ -219,7 +219,7 @@ cleared_reduced k w q first m m' red clear one-q hq hk =
           | inr ne ↦
               let up : cell w m q i ≡ 0 = red.none q i hq (omega arith) (λ e. omega arith) in
               let was : cell w m i i ≡ 1 = red.one i (omega arith) in
-              cc (clear.there i i (omega arith) (omega arith) ne, up, was, laws.mul-zero (cell w m i q), laws.add-zero 1 (omega arith))
+              cc (clear.there i i (omega arith) (omega arith) ne, up, was, laws.mul_zero (cell w m i q), laws.add_zero 1 (omega arith))
         ]
 
     none_else : (i t : ℕ) → i < k → t < q + 1 → (i ≡ t → ⊥) → (i ≡ q → ⊥) → cell w m' i t ≡ 0
@@ -229,11 +229,11 @@ cleared_reduced k w q first m m' red clear one-q hq hk =
           | inl e ↦
               let at-q : cell w m' i t ≡ add (cell w m i q) (mul (cell w m i q) (cell w m q q)) =
               new ∙ ap (λ (j : ℕ). add (cell w m i j) (mul (cell w m i q) (cell w m q j))) e in
-              cc (at-q, one-q, laws.mul-one (cell w m i q) (byte i q), laws.add-self (cell w m i q))
+              cc (at-q, one-q, laws.mul_one (cell w m i q) (byte i q), laws.add_self (cell w m i q))
           | inr ne'' ↦
               let was : cell w m i t ≡ 0 = red.none i t hi (omega arith) ne in
               let up : cell w m q t ≡ 0 = red.none q t hq (omega arith) (λ e. omega arith) in
-              cc (new, was, up, laws.mul-zero (cell w m i q), laws.add-self 0)
+              cc (new, was, up, laws.mul_zero (cell w m i q), laws.add_self 0)
         ]
 
     none : (i t : ℕ) → i < k → t < q + 1 → (i ≡ t → ⊥) → cell w m' i t ≡ 0

@@ -1,5 +1,5 @@
 -- From points and values that stand one after the other to the rows behind pieces.
-use Rattle.std.proofs.Common.{◌≡◌, ℕ, zero, suc, ◌+◌, ◌*◌, ◌/◌, ◌%◌, ◌<◌, ◌≤◌, Bool, true, false, cond, eqb, List, [], ◌∷◌, ◌++◌, map, length, get_or, take, drop, vec_items, sym, refl, ap, ◌∙◌, subst, ap₂, inl, inr, suc-mul, mul_comm, zero_mul, arith, lit<}
+use Rattle.std.proofs.Common.{◌≡◌, ℕ, zero, suc, ◌+◌, ◌*◌, ◌/◌, ◌%◌, ◌<◌, ◌≤◌, Bool, true, false, cond, eqb, List, [], ◌∷◌, ◌++◌, map, length, get_or, take, drop, vec_items, sym, refl, ap, ◌∙◌, subst, ap₂, inl, inr, suc-mul, mul_comm, zero-mul, arith, lit<}
 use mathlib.Core.List.Memᴰ
 use mathlib.Core.List.{Memᴰ}
 use native.Mathlib.Nat.{mul-div_cancel_left, mul-mod_right}
@@ -55,7 +55,7 @@ whole ps = flat_map (λ p. vec_items p.bytes) ps
 
 module _ (w : ℕ) where
   pub length_whole : (ps : List Piece) → All (λ p. length p ≡ w) (parts ps) → length (whole ps) ≡ length ps * w
-  length_whole [] h = sym (zero_mul w)
+  length_whole [] h = sym (zero-mul w)
   length_whole (p ∷ ps) h =
       length-append (vec_items p.bytes) (whole ps) ∙ omega (arith, h.0, length_whole ps h.1, suc-mul (length ps) w)
 
@@ -63,7 +63,7 @@ module _ (w : ℕ) where
   get_or_whole : (ps : List Piece) → All (λ p. length p ≡ w) (parts ps) → (i r : ℕ) → i < length ps → r < w → get_or (whole ps) (i * w + r) 0 ≡ get_or (get_or (parts ps) i []) r 0
   get_or_whole [] h i r hi hr = absurd (omega arith)
   get_or_whole (p ∷ ps) h zero r hi hr =
-      ap (λ k. get_or (vec_items p.bytes ++ whole ps) k 0) (omega (arith, zero_mul w))
+      ap (λ k. get_or (vec_items p.bytes ++ whole ps) k 0) (omega (arith, zero-mul w))
       ∙ get_or_append_left (vec_items p.bytes) (whole ps) 0 r (omega (arith, h.0))
   get_or_whole (p ∷ ps) h (suc i) r hi hr =
       get_or-append_right (vec_items p.bytes) (whole ps) w (suc i * w + r) 0 h.0 (omega (arith, suc-mul i w))

@@ -1,5 +1,5 @@
 -- The values of rows: how many there are, which one stands where, and that enough of them determine the rows.
-use Rattle.std.proofs.Common.{◌≡◌, ℕ, zero, suc, ◌+◌, ◌*◌, ◌<◌, ◌≤◌, List, [], ◌∷◌, ◌++◌, length, get_or, take, drop, sym, refl, ap, ◌∙◌, ap₂, suc-mul, zero_mul, mul-suc, arith}
+use Rattle.std.proofs.Common.{◌≡◌, ℕ, zero, suc, ◌+◌, ◌*◌, ◌<◌, ◌≤◌, List, [], ◌∷◌, ◌++◌, length, get_or, take, drop, sym, refl, ap, ◌∙◌, ap₂, suc-mul, zero-mul, mul-suc, arith}
 use mathlib.Core.List.{Memᴰ}
 use Rattle.std.proofs.lemmas.List.{drop-drop, length-take-le, length-drop, take-append-drop, same_lists, nil_from_length, get_or_default, drop_all, drop_more, length-take, get_or-take, get_or-drop}
 use Rattle.std.proofs.lemmas.Nat.{mul-le}
@@ -21,7 +21,7 @@ row need flat r = take need (drop (r * need) flat)
 pub get_or_values : (need rows x : ℕ) (flat : List ℕ) (r d : ℕ) → r < rows → get_or (values need rows x flat) r d ≡ value (row need flat r) x
 unfolding values
 get_or_values need zero x flat r d h = absurd (omega arith)
-get_or_values need (suc rows) x flat zero d h = ap (λ k. value (take need (drop k flat)) x) (sym (zero_mul need))
+get_or_values need (suc rows) x flat zero d h = ap (λ k. value (take need (drop k flat)) x) (sym (zero-mul need))
 get_or_values need (suc rows) x flat (suc r) d h =
     get_or_values need rows x (drop need flat) r d (omega arith)
     ∙ ap (λ k. value (take need k) x) (drop-drop (r * need) need flat ∙ ap (λ k. drop k flat) (omega (arith, suc-mul r need)))
@@ -53,7 +53,7 @@ row_inside need rows flat r h long = omega (arith, suc-mul r need, mul-le (suc r
 pub rows_determined : (need rows : ℕ) (xs f g : List ℕ) → Bytes f → Bytes g → Bytes xs → Distinct xs → need ≤ length xs → length f ≡ rows * need → length g ≡ rows * need → ((x : ℕ) → Memᴰ x xs → values need rows x f ≡ values need rows x g) → f ≡ g
 unfolding values
 rows_determined need zero xs f g bf bg bx d h lf lg same =
-    nil_from_length f (lf ∙ zero_mul need) ∙ sym (nil_from_length g (lg ∙ zero_mul need))
+    nil_from_length f (lf ∙ zero-mul need) ∙ sym (nil_from_length g (lg ∙ zero-mul need))
 rows_determined need (suc rows) xs f g bf bg bx d h lf lg same =
     let e = suc-mul rows need in
     let tf : length (take need f) ≡ need = length-take-le need f (omega arith) in

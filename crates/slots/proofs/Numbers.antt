@@ -1,5 +1,5 @@
 -- Numbers in bytes, the highest first: written and read again, and read of a front.
-use Rattle.std.proofs.Common.{◌≡◌, ℕ, zero, suc, ◌+◌, ◌*◌, ◌/◌, ◌%◌, ◌^◌, ◌<◌, ◌≤◌, List, [], ◌∷◌, ◌++◌, length, get_or, take, sym, refl, ap, ◌∙◌, add_zero, mod-eq_of_lt, mul_assoc, pow-suc, div-one, arith, pow_pos}
+use Rattle.std.proofs.Common.{◌≡◌, ℕ, zero, suc, ◌+◌, ◌*◌, ◌/◌, ◌%◌, ◌^◌, ◌<◌, ◌≤◌, List, [], ◌∷◌, ◌++◌, length, get_or, take, sym, refl, ap, ◌∙◌, add-zero, mod-eq_of_lt, mul_assoc, pow-suc, div-one, arith, pow_pos}
 use native.Mathlib.Nat.{pow-succ', mod-one}
 use lib.Arith.{mod-mul}
 use Rattle.std.proofs.lemmas.List.{append_assoc, get_or_at, get_or-take, length_push}
@@ -14,7 +14,7 @@ bytes4 v = ap (λ n. v / 16777216 % 256 ∷ v / 65536 % 256 ∷ v / 256 % 256 �
 
 -- The first byte of a number weighs the most.
 pub number_at_first : (bytes : List ℕ) (from k : ℕ) → number_at bytes from (suc k) ≡ get_or bytes from 0 * 256 ^ k + number_at bytes (from + 1) k
-number_at_first bytes from zero = let e = ap (λ i. get_or bytes i 0) (add_zero from) in omega arith
+number_at_first bytes from zero = let e = ap (λ i. get_or bytes i 0) (add-zero from) in omega arith
 number_at_first bytes from (suc k) =
     let above = number_at_first bytes from k in
     let i : from + suc k ≡ (from + 1) + k = omega arith in

@@ -6,4 +6,4 @@ use Rattle.byte_field.proofs.Masks.{shifted}
 use Rattle.byte_field.proofs.field.doubled.Goals as goal
 
 pub returns : goal.returns
-returns c = ap (λ x. bit_xor (c.args.byte * 2 % 256) x) c.where-bit.ensures ∙ shifted c.args.byte (search rules)
+returns c = ap (λ x. bit_xor (c.args.byte * 2 % 256) x) c.where_bit.ensures ∙ shifted c.args.byte (search rules)

@@ -9,9 +9,9 @@ returns-then-not-is-ascii-digit c =
 
 pub loop-b-preserved : goal.loop-b-preserved
 loop-b-preserved c =
-    let step = number_step c.loop-b.n _ _ c.loop-b-test.true (sym c.if-not-is-ascii-digit.ensures.value) in
-    let same = c.saturating-mul.ensures in
-    (c.saturating-add-n.type-inv, cc step)
+    let step = number_step c.loop-b.n _ _ c.loop-b-test.true (sym c.if-not-is_ascii_digit.ensures.value) in
+    let same = c.saturating_mul.ensures in
+    (c.saturating_add-n.type-inv, cc step)
 
 pub returns : goal.returns
 returns c = sym (number_end _ _ _ c.loop-b.invariant.0 c.loop-b-test.false) ∙ c.loop-b.invariant.1

@@ -12,8 +12,8 @@ returns-then-b-eq32 c =
     let f = front_stop s i inside c.if-b-eq32.true in
     let b = back_stop s i inside c.if-b-eq32.true in
     record {
-      found = c.split-at.ensures.front ∙ sym (append-nil (take i s)) ∙ ap (λ r. take i s ++ r) (sym f) ∙ c.loop-i.invariant.0;
-      rest = c.split-at.ensures.back ∙ sym b ∙ c.loop-i.invariant.1;
+      found = c.split_at.ensures.front ∙ sym (append-nil (take i s)) ∙ ap (λ r. take i s ++ r) (sym f) ∙ c.loop-i.invariant.0;
+      rest = c.split_at.ensures.back ∙ sym b ∙ c.loop-i.invariant.1;
     }
 
 pub loop-i-preserved : goal.loop-i-preserved
@@ -35,6 +35,6 @@ returns c =
     let f = at_drop_all front s i past in
     let b = at_drop_all back s i past in
     record {
-      found = c.split-at-2.ensures.front ∙ take_all (length s) s (omega arith) ∙ sym (take_all i s past) ∙ sym (append-nil (take i s)) ∙ ap (λ r. take i s ++ r) (sym f) ∙ c.loop-i.invariant.0;
-      rest = c.split-at-2.ensures.back ∙ drop_all (length s) s (omega arith) ∙ sym b ∙ c.loop-i.invariant.1;
+      found = c.split_at-2.ensures.front ∙ take_all (length s) s (omega arith) ∙ sym (take_all i s past) ∙ sym (append-nil (take i s)) ∙ ap (λ r. take i s ++ r) (sym f) ∙ c.loop-i.invariant.0;
+      rest = c.split_at-2.ensures.back ∙ drop_all (length s) s (omega arith) ∙ sym b ∙ c.loop-i.invariant.1;
     }

@@ -8,5 +8,5 @@ returns c =
     let field = c.args.field.now in
     let k = c.args.at + length field - c.args.at in
     let e : c.args.at + k ≡ c.args.at + length field = omega arith in
-    ap (λ l. take c.args.at s ++ (l ++ drop k (drop c.args.at s))) c.copy-from-slice.ensures.after
+    ap (λ l. take c.args.at s ++ (l ++ drop k (drop c.args.at s))) c.copy_from_slice.ensures.after
     ∙ ap (λ l. take c.args.at s ++ (field ++ l)) (drop-drop k c.args.at s ∙ ap (λ n. drop n s) e)

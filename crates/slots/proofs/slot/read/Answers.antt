@@ -44,5 +44,5 @@ returns c =
       kind = names.kind;
       object = sym names.object ∙ c.if-o-object.false;
       drive = sym names.drive ∙ c.if-d-drive.false;
-      sum = ap (λ n. number_at bytes (15 + n) 4) (sym names.len) ∙ sym c.sum-at.ensures ∙ c.if-sum-at-adler.false ∙ c.adler.ensures ∙ ap (λ n. adler (take n bytes)) same;
+      sum = ap (λ n. number_at bytes (15 + n) 4) (sym names.len) ∙ sym c.sum_at.ensures ∙ c.if-sum_at-adler.false ∙ c.adler.ensures ∙ ap (λ n. adler (take n bytes)) same;
     })

@@ -26,6 +26,6 @@ returns c =
       answer = fits;
       after = written_put c.args.object c.args.drive c.args.version (end - 4) (end - 4 - 0) c.adler-sum.result
           p s c.put.new.slot c.put-2.new.slot c.put-3.new.slot fits (omega arith) (omega arith)
-          (c.put.ensures ∙ ap (put_at s 0) c.header-bytes.ensures) c.put-2.ensures c.adler-sum.ensures
-          (c.put-3.ensures ∙ ap (put_at c.put-2.new.slot (end - 4)) (c.to-be-bytes.ensures ∙ bytes4 c.adler-sum.result));
+          (c.put.ensures ∙ ap (put_at s 0) c.header_bytes.ensures) c.put-2.ensures c.adler-sum.ensures
+          (c.put-3.ensures ∙ ap (put_at c.put-2.new.slot (end - 4)) (c.to_be_bytes.ensures ∙ bytes4 c.adler-sum.result));
     }

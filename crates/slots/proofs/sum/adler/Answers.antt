@@ -5,7 +5,7 @@ use Rattle.slots.proofs.sum.adler.Goals as goal
 
 pub loop-at-preserved : goal.loop-at-preserved
 loop-at-preserved c =
-    let h = c.add-block.ensures in
+    let h = c.add_block.ensures in
     let on = h.onward (drop c.if-bytes-at-lt-BLOCK.end c.args.bytes.now) in
     let e = between_rest c.args.bytes.now c.loop-at.at c.if-bytes-at-lt-BLOCK.end (omega arith) in
     let i = c.loop-at.invariant.3 in
