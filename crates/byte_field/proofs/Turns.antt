@@ -1,6 +1,6 @@
 -- The loop of `product`: its start, a turn and its end.
 -- Assumes nothing.
-use Rattle.std.proofs.Common.{◌≡◌, ℕ, suc, ◌+◌, ◌-◌, ◌/◌, ◌%◌, ◌^◌, ◌<◌, ◌≤◌, cond, eqb, sym, refl, ap, ◌∙◌, ap₂, arith, shr-shr}
+use Rattle.std.proofs.Common.{◌≡◌, ℕ, suc, ◌+◌, ◌-◌, ◌/◌, ◌%◌, ◌^◌, ◌<◌, ◌≤◌, cond, eqb, sym, ap, ◌∙◌, arith, shr-shr}
 use Rattle.byte_field.specs.Byte.{add, twice, times, mul, IsByte}
 use Rattle.byte_field.proofs.Laws.{add_assoc, zero_add, add_zero, mul_byte}
 

@@ -1,9 +1,9 @@
 -- A slot whose piece was taken away.
-use Rattle.std.proofs.Common.{◌≡◌, ℕ, ◌+◌, ◌-◌, ◌<◌, ◌≤◌, List, ◌++◌, length, take, drop, replicate, sym, refl, ap, ◌∙◌, arith}
-use Rattle.std.proofs.lemmas.List.{length-take, length-drop, length-take-le}
+use Rattle.std.proofs.Common.{◌≡◌, ℕ, ◌+◌, ◌≤◌, List, ◌++◌, length, take, drop, replicate, sym, ap, ◌∙◌, arith}
+use Rattle.std.proofs.lemmas.List.{length-drop, length-take-le}
 use Rattle.slots.specs.Layout.{around}
-use Rattle.slots.specs.Slot.{Slot, empty, holds, read_slot, record_length, cleared, length_in}
-use Rattle.slots.proofs.Reading.{Fits, fits_from}
+use Rattle.slots.specs.Slot.{empty, holds, read_slot, record_length, cleared, length_in}
+use Rattle.slots.proofs.Reading.{fits_from}
 
 -- The record of what a slot holds lies within the slot.
 pub held_within : (o d v : ℕ) (p bytes : List ℕ) → holds v p ≡ read_slot o d bytes → around + length p ≤ length bytes

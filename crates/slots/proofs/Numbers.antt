@@ -1,5 +1,5 @@
 -- Numbers in bytes, the highest first: written and read again, and read of a front.
-use Rattle.std.proofs.Common.{◌≡◌, ℕ, zero, suc, ◌+◌, ◌*◌, ◌/◌, ◌%◌, ◌^◌, ◌<◌, ◌≤◌, List, [], ◌∷◌, ◌++◌, length, get_or, take, sym, refl, ap, ◌∙◌, add-zero, mod-eq_of_lt, mul_assoc, pow-suc, div-one, arith, pow_pos}
+use Rattle.std.proofs.Common.{◌≡◌, ℕ, zero, suc, ◌+◌, ◌*◌, ◌/◌, ◌%◌, ◌^◌, ◌<◌, ◌≤◌, List, [], ◌∷◌, ◌++◌, length, get_or, take, sym, refl, ap, ◌∙◌, add-zero, mod-eq_of_lt, mul_assoc, pow-suc, div-one, arith}
 use native.Mathlib.Nat.{pow-succ', mod-one}
 use lib.Arith.{mod-mul}
 use Rattle.std.proofs.lemmas.List.{append_assoc, get_or_at, get_or-take, length_push}

@@ -1,10 +1,10 @@
 -- What decides that a slot's bytes read as nothing, or as a piece.
-use Rattle.std.proofs.Common.{◌≡◌, ℕ, ◌+◌, ◌<◌, ◌≤◌, true, false, List, length, get_or, take, drop, sym, inl, inr, arith}
+use Rattle.std.proofs.Common.{◌≡◌, ℕ, ◌+◌, ◌≤◌, true, List, length, get_or, take, drop, sym, inl, inr, arith}
 use Rattle.std.proofs.lemmas.Bool.{cond-true, cond-false, cases_Bool, both_ways}
 use Rattle.std.proofs.lemmas.Bool.Decides.{nat_tests}
 use Rattle.slots.specs.Adler.{adler}
 use Rattle.slots.specs.Layout.{slot_size, around}
-use Rattle.slots.specs.Slot.{Slot, empty, holds, fits, read_slot, version_in, length_in, sum_in}
+use Rattle.slots.specs.Slot.{empty, holds, fits, read_slot, version_in, length_in, sum_in}
 
 -- All that a record asks.
 pub record Fits (o d : ℕ) (bytes : List ℕ) : Type 0 where

@@ -1,13 +1,13 @@
 -- The laws of slots.
-use Rattle.std.proofs.Common.{◌≡◌, ℕ, ◌+◌, ◌-◌, ◌^◌, ◌<◌, ◌≤◌, List, [], ◌∷◌, ◌++◌, length, get_or, take, drop, replicate, sym, refl, ap, ◌∙◌, arith}
+use Rattle.std.proofs.Common.{◌≡◌, ℕ, ◌+◌, ◌-◌, ◌<◌, ◌≤◌, List, [], ◌∷◌, ◌++◌, length, get_or, take, drop, replicate, sym, refl, ap, ◌∙◌, arith}
 use Rattle.std.proofs.lemmas.List.{append_assoc, take_at, take-take, drop-take, length-append, length-take, length-take-le, length-drop, length-replicate, get_or-take, get_or_append_left, get_or-replicate}
 use Rattle.slots.specs.Adler.{adler}
-use Rattle.slots.specs.Layout.{around, piece_room, bytes_of, number_at, header_of, body_of, record_of}
-use Rattle.slots.specs.Slot.{Slot, empty, holds, read_slot, version_in, length_in, sum_in, record_length, cleared}
+use Rattle.slots.specs.Layout.{around, bytes_of, number_at, header_of, body_of, record_of}
+use Rattle.slots.specs.Slot.{Slot, empty, holds, read_slot, version_in, length_in, sum_in, cleared}
 use Rattle.slots.specs.Laws.{ReadsWritten, ClearedReadsEmpty, ReadsPrefix, ReadsOwn, Slots}
 use Rattle.slots.proofs.Adding.{adler_lt}
 use Rattle.slots.proofs.Numbers.{number_at_whole, number_at_take}
-use Rattle.slots.proofs.Reading.{Fits, misfit, fit, fits_from}
+use Rattle.slots.proofs.Reading.{misfit, fit, fits_from}
 use Rattle.slots.proofs.Clearing.{cleared_none, cleared_held}
 
 -- A record's parts are where they are looked for.

@@ -1,8 +1,8 @@
 -- The laws of slots: what was written is read, what was taken away isn't, and only the record's own bytes matter.
 -- Assumes nothing.
-use Rattle.std.specs.Prelude.{◌≡◌, ℕ, ◌+◌, ◌^◌, ◌<◌, ◌≤◌, List, [], ◌∷◌, ◌++◌, length, take, replicate}
+use Rattle.std.specs.Prelude.{◌≡◌, ℕ, ◌^◌, ◌<◌, ◌≤◌, List, [], ◌∷◌, ◌++◌, length, take, replicate}
 use Rattle.slots.specs.Layout.{record_of, piece_room}
-use Rattle.slots.specs.Slot.{Slot, empty, holds, read_slot, record_length, cleared}
+use Rattle.slots.specs.Slot.{empty, holds, read_slot, record_length, cleared}
 use Rattle.slots.specs.Mixture.{Mixture}
 
 -- What is read of a record is what was written, whatever lies behind it. The bounds are those of a version's 8 bytes and of a slot's room.

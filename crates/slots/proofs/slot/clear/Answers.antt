@@ -8,8 +8,8 @@ returns-in-None c =
     let e = c.in-None.ensures in
     record { answer = ap is_held e; after = cleared_none c.args.object c.args.drive c.args.slot.now e }
 
-pub slice-bounds-fill-end : goal.slice-bounds-fill-end
-slice-bounds-fill-end c = omega (arith, held_within c.args.object c.args.drive c.in-Some.held.version c.in-Some.held.piece.now c.args.slot.now c.in-Some.ensures)
+pub slice_bounds-fill-end : goal.slice_bounds-fill-end
+slice_bounds-fill-end c = omega (arith, held_within c.args.object c.args.drive c.in-Some.held.version c.in-Some.held.piece.now c.args.slot.now c.in-Some.ensures)
 
 pub returns : goal.returns
 returns c =

@@ -6,10 +6,10 @@ use Rattle.slots.proofs.Reading.{misfit, fit}
 use Rattle.slots.proofs.slot.read.Goals as goal
 use Rattle.slots.proofs.slot.read.Goals.{then-o-object-via-then-o-object, then-o-object-via-else-o-object+then-d-drive, then-o-object-via-else-o-object+else-d-drive+then-len-gt-PIECE, then-o-object-via-else-o-object+else-d-drive+else-len-gt-PIECE+then-slot-len}
 
-pub returns-in-default : goal.returns-in-default
-returns-in-default c =
+pub returns-in_default : goal.returns-in_default
+returns-in_default c =
     misfit c.args.object c.args.drive c.args.slot.now (λ h.
-    let none = c.in-default.ensures in elim none [ inl short ↦ omega (arith, h.whole) | inr other ↦ other h.kind ])
+    let none = c.in_default.ensures in elim none [ inl short ↦ omega (arith, h.whole) | inr other ↦ other h.kind ])
 
 pub returns-then-o-object : goal.returns-then-o-object
 returns-then-o-object c =
@@ -22,13 +22,13 @@ returns-then-o-object c =
       | then-o-object-via-else-o-object+else-d-drive+else-len-gt-PIECE+then-slot-len w ↦ omega (arith, h.whole, names.len, w.if-slot-len.true)
     ])
 
-pub returns-then-sum-at-adler : goal.returns-then-sum-at-adler
-returns-then-sum-at-adler c =
+pub returns-then-sum_at-adler : goal.returns-then-sum_at-adler
+returns-then-sum_at-adler c =
     misfit c.args.object c.args.drive c.args.slot.now (λ h.
     let len = c.in-Some.ensures.len in
     let same : 15 + c.in-Some.header.len - 0 ≡ 15 + length_in c.args.slot.now = omega arith in
-    c.if-sum-at-adler.true
-    (c.sum-at.ensures ∙ ap (λ n. number_at c.args.slot.now (15 + n) 4) len ∙ h.sum
+    c.if-sum_at-adler.true
+    (c.sum_at.ensures ∙ ap (λ n. number_at c.args.slot.now (15 + n) 4) len ∙ h.sum
     ∙ ap (λ n. adler (take n c.args.slot.now)) (sym same) ∙ sym c.adler.ensures))
 
 pub returns : goal.returns

@@ -4,9 +4,9 @@ use Rattle.slots.proofs.Numbers.{bytes4}
 use Rattle.slots.proofs.Writing.{room_some, room_none, has_room_lem, no_piece_room, no_place_room, written_none, written_put}
 use Rattle.slots.proofs.slot.write.Goals as goal
 
-pub returns-in-default : goal.returns-in-default
-returns-in-default c =
-    let full = no_piece_room c.args.slot.now c.args.piece.now (room_none (length c.args.piece.now) c.in-default.ensures) in
+pub returns-in_default : goal.returns-in_default
+returns-in_default c =
+    let full = no_piece_room c.args.slot.now c.args.piece.now (room_none (length c.args.piece.now) c.in_default.ensures) in
     record { answer = full; after = written_none c.args.object c.args.drive c.args.version c.args.piece.now c.args.slot.now full }
 
 pub returns-then-slot-end : goal.returns-then-slot-end

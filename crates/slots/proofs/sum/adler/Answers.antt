@@ -1,4 +1,4 @@
-use Rattle.std.proofs.Common.{◌≡◌, drop, arith}
+use Rattle.std.proofs.Common.{drop, arith}
 use Rattle.slots.specs.Adler.{adler}
 use Rattle.slots.proofs.Adding.{between_rest, sums_end}
 use Rattle.slots.proofs.sum.adler.Goals as goal
