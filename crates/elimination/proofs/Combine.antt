@@ -1,5 +1,5 @@
 -- Combinations of columns: they are linear, and at rows of the unit matrix they pick a coefficient; the value of a polynomial is one.
-use Rattle.std.proofs.Common.{◌≡◌, ℕ, zero, suc, ◌+◌, ◌<◌, List, [], ◌∷◌, ◌++◌, length, get_or, replicate, sym, refl, ap, ◌∙◌, suc-add, zero-add, arith}
+use Rattle.std.proofs.Common.{◌≡◌, ℕ, zero, suc, ◌+◌, ◌<◌, List, [], ◌∷◌, length, get_or, sym, refl, ap, ◌∙◌, arith}
 use Rattle.byte_field.specs.Byte.{add, mul, IsByte}
 use Rattle.byte_field.proofs.Laws as laws
 use Rattle.elimination.specs.Polynomial.{value, Bytes}

@@ -1,6 +1,6 @@
 -- What it is to work polynomials out of their values, and when that is refused.
 -- Assumes nothing.
-use Rattle.std.specs.Prelude.{◌≡◌, ℕ, ◌+◌, ◌*◌, ◌/◌, ◌%◌, ◌<◌, Bool, true, false, cond, ◌||◌, List, [], ◌∷◌, length, take, drop, ◌==◌, slice_index}
+use Rattle.std.specs.Prelude.{◌≡◌, ℕ, ◌+◌, ◌*◌, ◌/◌, ◌%◌, ◌<◌, Bool, false, cond, ◌||◌, List, [], ◌∷◌, length, take, drop, ◌==◌, slice_index}
 use Rattle.elimination.specs.declared.Unsolved.{Unsolved}
 use Rattle.elimination.specs.declared.Unsolved.TheVariants.{NoPoints, Uneven, SamePoint, NoMemory}
 use Rattle.elimination.specs.Polynomial.{value, Bytes}

@@ -1,5 +1,5 @@
 -- The first word of a command, and the command that it gives with what follows it. Assumes nothing.
-use Rattle.std.specs.Prelude.{ℕ, Bool, true, false, cond, List, Some, None, codes, Option}
+use Rattle.std.specs.Prelude.{ℕ, cond, List, Some, None, codes, Option}
 use Rattle.std.specs.Str.{bytes_eq}
 use Rattle.script.specs.declared.command.Verb.{Verb}
 use Rattle.script.specs.declared.command.Verb.TheVariants.{Alone, Number, Numbers, Bytes, Give, Stop, Spoil}

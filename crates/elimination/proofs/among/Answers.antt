@@ -1,5 +1,5 @@
 -- A point at hand is found, another is passed over.
-use Rattle.std.proofs.Common.{sym, ◌∙◌, arith}
+use Rattle.std.proofs.Common.{sym, ◌∙◌}
 use Rattle.elimination.proofs.Points.{in_here, in_more, in_none}
 use Rattle.elimination.proofs.among.Goals as goal
 

@@ -8,10 +8,10 @@ use Rattle.elimination.proofs.building.matrix.Goals as goal
 
 pub loop-i-init : goal.loop-i-init
 unfolding blocks
-loop-i-init c = c.in-ok-m.ensures.items
+loop-i-init c = c.in_ok-m.ensures.items
 
-pub slice-bounds-extend-from-slice-end : goal.slice-bounds-extend-from-slice-end
-slice-bounds-extend-from-slice-end c =
+pub slice_bounds-extend_from_slice-end : goal.slice_bounds-extend_from_slice-end
+slice_bounds-extend_from_slice-end c =
     let within = row_within (length c.args.points.now) c.args.width c.loop-i.i (length c.args.values.now) c.requires (omega arith) in
     search rules
 
@@ -25,8 +25,8 @@ loop-i-preserved c =
     let front : List ℕ = powers (get_or points i 0) (length points) in
     let part : ℕ → List ℕ = λ n. take n (drop (i * width) values) in
     let n : i * width + width - i * width ≡ width = omega arith in
-    c.in-ok-extend-from-slice.ensures.items
-    ∙ ap (λ (l : List ℕ). l ++ part (i * width + width - i * width)) (c.in-ok-push-powers.ensures ∙ ap (λ (l : List ℕ). l ++ front) c.loop-i.invariant)
+    c.in_ok-extend_from_slice.ensures.items
+    ∙ ap (λ (l : List ℕ). l ++ part (i * width + width - i * width)) (c.in_ok-push_powers.ensures ∙ ap (λ (l : List ℕ). l ++ front) c.loop-i.invariant)
     ∙ ap (λ (j : ℕ). (blocks f i ++ front) ++ part j) n
     ∙ append_assoc (blocks f i) front (part width)
     ∙ blocks_more f i

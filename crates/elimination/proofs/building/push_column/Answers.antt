@@ -16,7 +16,7 @@ loop-i-preserved c =
     let t : ℕ = c.args.c in
     let m : List ℕ = c.args.m.now in
     let done : List ℕ = vec_items c.args.out.now ++ column c.loop-i.i w m t in
-    pushed {xs = done} (c.entry.result ∷ []) c.loop-i.invariant c.in-ok-push.was c.push.ensures.items
+    pushed {xs = done} (c.entry.result ∷ []) c.loop-i.invariant c.in_ok-push.was c.push.ensures.items
     ∙ ap (λ (x : ℕ). done ++ x ∷ []) c.entry.ensures
     ∙ counted_more (vec_items c.args.out.now) (λ i. cell w m i t) c.loop-i.i
 

@@ -1,5 +1,5 @@
 -- So many entries of the column are pushed.
-use Rattle.std.proofs.Common.{◌≡◌, ◌++◌, map, vec_items}
+use Rattle.std.proofs.Common.{◌≡◌, ◌++◌, vec_items}
 use Rattle.elimination.specs.Matrix.{column}
 use Rattle.elimination.proofs.building.push_column.Given as goal
 

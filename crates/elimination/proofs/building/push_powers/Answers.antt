@@ -14,9 +14,9 @@ pub loop-t-preserved : goal.loop-t-preserved
 unfolding power
 loop-t-preserved c =
     let x : ℕ = c.args.x in
-    let t : ℕ = c.loop-t.-t in (
-      c.in-ok-push.ensures.items ∙ ap₂ (λ (l : List ℕ) (y : ℕ). l ++ y ∷ []) c.loop-t.invariant.0 c.loop-t.invariant.1
+    let t : ℕ = c.loop-t._t in (
+      c.in_ok-push.ensures.items ∙ ap₂ (λ (l : List ℕ) (y : ℕ). l ++ y ∷ []) c.loop-t.invariant.0 c.loop-t.invariant.1
           ∙ counted_more (vec_items c.args.m.now) (power x) t,
       c.product-next.ensures ∙ ap (mul x) c.loop-t.invariant.1 ∙ sym (ap (power x) (add-one t)),
-      c.product-next.type-inv,
+      c.product-next.type_inv,
     )

@@ -1,5 +1,4 @@
 -- The rows before this one are cleared.
-use Rattle.std.proofs.Common.{◌≡◌, ℕ, ◌<◌, ◌≤◌}
 use Rattle.elimination.specs.Matrix.{Cleared}
 use Rattle.elimination.proofs.reduction.clear_column.Given as goal
 

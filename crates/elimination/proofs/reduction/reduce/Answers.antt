@@ -8,7 +8,7 @@ use Rattle.elimination.proofs.reduction.reduce.Goals as goal
 pub unreachable-requires : goal.unreachable-requires
 unreachable-requires c =
     pivot_there c.args.k c.args.w c.loop-q.q c.args.m.now c.loop-q.m c.loop-q.invariant (omega arith) (omega arith) c.requires.given.1
-    c.in-default.ensures
+    c.in_default.ensures
 
 pub lead-requires : goal.lead-requires
 lead-requires c =
@@ -35,8 +35,8 @@ loop-q-preserved c =
     let low : q ≤ p = found.0 in
     let high : p < k = found.1 in
     let some : 1 ≤ cell w m p q = found.2 in
-    cleared_reduced k w q first m' c.clear-column.new.m (led_reduced k w q p first m m' c.loop-q.invariant c.lead.ensures wide low high some)
-    c.clear-column.ensures
+    cleared_reduced k w q first m' c.clear_column.new.m (led_reduced k w q p first m m' c.loop-q.invariant c.lead.ensures wide low high some)
+    c.clear_column.ensures
     (led_one k w q p first m m' c.loop-q.invariant c.lead.ensures wide low high some)
     (omega arith)
     wide

@@ -5,5 +5,5 @@ use Rattle.elimination.proofs.rows.add_row.Goals as goal
 
 pub returns : goal.returns
 returns c =
-    row_added c.args.w c.args.i _ c.args.factor c.args.m.now c.args.source.now c.add-scaled.new.dst (omega arith) (omega arith)
-    (omega arith) c.add-scaled.ensures
+    row_added c.args.w c.args.i _ c.args.factor c.args.m.now c.args.source.now c.add_scaled.new.dst (omega arith) (omega arith)
+    (omega arith) c.add_scaled.ensures

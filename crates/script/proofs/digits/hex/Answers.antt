@@ -1,4 +1,4 @@
-use Rattle.std.proofs.Common.{◌≡◌, ◌<◌, get_or, take, is_ok, string_bytes, sym, ap, ◌∙◌, subst, arith}
+use Rattle.std.proofs.Common.{◌<◌, get_or, take, is_ok, ap, ◌∙◌, arith}
 use Rattle.std.proofs.ResultArms.{chosen}
 use Rattle.std.proofs.ByRecursion.{All-from_get_or}
 use Rattle.std.proofs.lemmas.List.{take_all, take_more}
@@ -21,5 +21,5 @@ returns c =
     let written = c.loop-b.invariant ∙ ap to_hex (take_all c.loop-b.b-index c.args.bytes.now c.loop-b-test.false) in
     record {
       written = written;
-      read_back = ap from_hex written ∙ reads_back _ (All-from_get_or (λ b. b < 256) c.args.bytes.now 0 (λ i h. let f = c.ok.bytes i in omega arith));
+      read_back = ap from_hex written ∙ reads_back _ (All-from_get_or (λ b. b < 256) c.args.bytes.now 0 (λ i h. let f = c.type_inv.bytes i in omega arith));
     }
