@@ -1,9 +1,9 @@
 -- The place for a version is one of an object's places.
-use Rattle.std.proofs.Common.{◌≡◌, ℕ, zero, suc, ◌+◌, ◌<◌, ◌≤◌, Bool, true, false, cond, List, [], ◌∷◌, map, length, IfSome, Some, None, Ok, Err, Option, sym, refl, ap, ◌∙◌, inl, inr, arith}
+use Rattle.std.proofs.Common.{◌≡◌, ℕ, suc, ◌+◌, ◌<◌, Bool, true, false, cond, List, [], ◌∷◌, map, length, IfSome, Some, None, Ok, Err, Option, sym, ap, ◌∙◌, arith}
 use Rattle.std.specs.Option.{option_map}
 use Rattle.std.proofs.lemmas.List.{length-map}
-use Rattle.std.proofs.lemmas.Bool.{cond-true, cond-false}
-use Rattle.slots.specs.Slot.{Slot, empty, has_room, written}
+use Rattle.std.proofs.lemmas.Bool.{cond-false}
+use Rattle.slots.specs.Slot.{empty, has_room, written}
 use Rattle.slots.proofs.Writing.{written_none}
 use Rattle.drives.specs.Place.{slot_at, with_slot, readings}
 use Rattle.drives.specs.Steps.{answer_at, written_at, write_answer, after_write}

@@ -1,18 +1,18 @@
 -- What is read of a drive after a writing and after a taking away.
-use Rattle.std.proofs.Common.{◌≡◌, ℕ, ◌+◌, ◌<◌, ◌≤◌, Bool, true, false, cond, List, map, length, get_or, drop, set, Some, None, Ok, Err, Option, Result, sym, refl, ap, ◌∙◌, inl, inr, arith}
+use Rattle.std.proofs.Common.{◌≡◌, ℕ, ◌+◌, ◌<◌, true, cond, List, map, length, get_or, drop, set, Some, None, Ok, Err, Option, Result, sym, refl, ap, ◌∙◌, inl, inr, arith}
 use Rattle.std.proofs.lemmas.List.{ext_get_or, get_or-map, get_or-set_same, get_or-set_other, length-map, length-set}
 use Rattle.std.proofs.lemmas.Bool.{cases_Bool, cases_eq, cond-true, cond-false}
-use Rattle.slots.specs.Layout.{around, record_of}
+use Rattle.slots.specs.Layout.{around}
 use Rattle.slots.specs.Slot.{Slot, empty, holds, read_slot, has_room, written, cleared}
 use Rattle.slots.proofs.Standing.{reads_written, cleared_reads_empty}
 use Rattle.slots.proofs.Writing.{room_parts, written_there, length_written}
 use Rattle.drives.specs.Place.{slot_at, with_slot, readings}
 use Rattle.drives.specs.Rule.{names_slot}
-use Rattle.drives.specs.Steps.{answer_at, written_at, write_answer, after_write, after_taking, taken_below}
+use Rattle.drives.specs.Steps.{answer_at, written_at, after_write, taken_below}
 use Rattle.drives.specs.View.{place_for}
 use Rattle.drives.specs.Laws.{WriteReads, TakingReads, OtherObjects, Rereading}
 use Rattle.drives.specs.declared.piece.Unwritten.{Unwritten}
-use Rattle.drives.specs.declared.piece.Unwritten.TheVariants.{NoRoom, NoPlace}
+use Rattle.drives.specs.declared.piece.Unwritten.TheVariants.{NoRoom}
 use Rattle.drives.specs.declared.rule.Rule.{Rule}
 use Rattle.drives.proofs.Counting.{length_readings, get_or_readings}
 use Rattle.drives.proofs.Placing.{place_below}

@@ -1,9 +1,9 @@
 -- The laws of a drive's slots.
-use Rattle.std.proofs.Common.{◌≡◌, ℕ, ◌+◌, ◌-◌, ◌*◌, ◌<◌, ◌≤◌, min, List, ◌++◌, length, take, drop, sym, refl, ap, ◌∙◌, inl, inr, arith}
-use Rattle.std.proofs.lemmas.List.{append_assoc, take-append-drop, drop-drop}
+use Rattle.std.proofs.Common.{◌≡◌, ℕ, ◌+◌, ◌-◌, ◌*◌, min, List, ◌++◌, length, take, drop, sym, ap, ◌∙◌, inl, inr, arith}
+use Rattle.std.proofs.lemmas.List.{take-append-drop, drop-drop}
 use Rattle.std.proofs.lemmas.Bool.{cases_order}
 use Rattle.slots.specs.Layout.{slot_size}
-use Rattle.drives.specs.Place.{places, slot_from, slot_at, with_slot}
+use Rattle.drives.specs.Place.{slot_from, slot_at, with_slot}
 use Rattle.drives.specs.Laws.{SlotStands, OthersStand, LengthStands, Apart}
 use Rattle.drives.proofs.Parting.{part_cut, put_cut, put_long, put_stands, put_above, put_below}
 

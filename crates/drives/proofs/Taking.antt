@@ -1,10 +1,10 @@
 -- Pieces taken away place by place.
-use Rattle.std.proofs.Common.{◌≡◌, ℕ, zero, suc, ◌+◌, ◌<◌, ◌≤◌, Bool, true, false, cond, List, ◌++◌, length, get_or, take, drop, replicate, count_by, sym, refl, ap, ◌∙◌, inl, inr, add-one, arith}
+use Rattle.std.proofs.Common.{◌≡◌, ℕ, zero, suc, ◌+◌, ◌<◌, ◌≤◌, true, false, cond, List, length, get_or, take, drop, replicate, count_by, sym, refl, ap, ◌∙◌, inl, inr, add-one, arith}
 use Rattle.std.proofs.lemmas.List.{length-append, length-replicate, length-drop}
 use Rattle.std.proofs.lemmas.List.Sums.{count_by_more_yes, count_by_more_no}
 use Rattle.std.proofs.lemmas.Bool.{cases_Bool, cases_eq, cond-true, cond-false}
 use Rattle.slots.specs.Layout.{around}
-use Rattle.slots.specs.Slot.{Slot, empty, holds, read_slot, cleared, record_length}
+use Rattle.slots.specs.Slot.{Slot, empty, holds, read_slot, cleared}
 use Rattle.slots.proofs.Clearing.{cleared_none, cleared_held, held_within}
 use Rattle.drives.specs.Place.{slot_at, with_slot, readings}
 use Rattle.drives.specs.Rule.{names_slot}

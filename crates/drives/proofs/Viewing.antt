@@ -1,10 +1,10 @@
 -- What the place for a version means for what is found afterwards.
-use Rattle.std.proofs.Common.{◌≡◌, ℕ, zero, suc, ◌+◌, ◌<◌, ◌≤◌, Bool, true, false, cond, ◌||◌, eqb, ◌⊎◌, List, [], ◌∷◌, ◌++◌, map, length, get_or, set, is_some, Some, None, Option, sym, refl, ap, ◌∙◌, inl, inr, arith}
+use Rattle.std.proofs.Common.{◌≡◌, ℕ, zero, suc, ◌+◌, ◌<◌, Bool, true, false, cond, ◌||◌, eqb, ◌⊎◌, List, [], ◌∷◌, ◌++◌, map, length, get_or, set, is_some, Some, None, Option, sym, refl, ap, ◌∙◌, inl, inr, arith}
 use Rattle.std.specs.Option.{option_map}
 use Rattle.std.proofs.lemmas.List.{length-map, get_or-map}
 use Rattle.std.proofs.lemmas.Bool.{both_ways, cases_Bool, cond-true, cond-false, eqb-true, eqb-false, eq-eqb, ne_eqb}
 use Rattle.slots.specs.Slot.{Slot, empty, holds}
-use Rattle.drives.specs.View.{version_of, same, index_of, firsts_after, distinct, or_else, place_in, place_for, find}
+use Rattle.drives.specs.View.{version_of, same, index_of, firsts_after, distinct, or_else, find}
 use Rattle.drives.specs.Laws.{FindsWritten, KeepsOthers, OnlyFull, Views}
 use Rattle.drives.proofs.Counting.{length_firsts_after}
 

@@ -1,6 +1,6 @@
 -- Which versions a rule names to be taken away.
 -- Assumes nothing.
-use Rattle.std.specs.Prelude.{ℕ, Bool, true, false, not, ◌&&◌, ◌==◌, nat_lt}
+use Rattle.std.specs.Prelude.{ℕ, Bool, false, not, ◌&&◌, ◌==◌, nat_lt}
 use Rattle.slots.specs.Slot.{Slot, empty, holds}
 use Rattle.drives.specs.declared.rule.Rule.{Rule}
 use Rattle.drives.specs.declared.rule.Rule.TheVariants.{Except, ExceptBoth, Under}

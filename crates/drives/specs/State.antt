@@ -1,6 +1,6 @@
 -- Which drives are in: definitions over the list of thirty-two flags and the count of drives.
 -- Assumes nothing.
-use Rattle.std.specs.Prelude.{ℕ, Bool, true, false, cond, ◌&&◌, List, count_by, nat_le, nat_lt, slice_index_or, slice_set}
+use Rattle.std.specs.Prelude.{ℕ, Bool, false, cond, ◌&&◌, List, count_by, nat_le, nat_lt, slice_index_or, slice_set}
 
 -- There may be 2 to 32 drives. The bound stands here and in the constant `MOST` of the code, which `Drives::new` ties to it.
 abbrev pub most_drives : ℕ

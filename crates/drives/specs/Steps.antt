@@ -1,7 +1,7 @@
 -- A drive after a piece was written to it, and after pieces were taken away from it.
 -- Assumes nothing.
-use Rattle.std.specs.Prelude.{ℕ, zero, suc, Bool, cond, List, Some, None, Ok, Err, count_by, Option, Result}
-use Rattle.slots.specs.Slot.{Slot, read_slot, has_room, written, cleared}
+use Rattle.std.specs.Prelude.{ℕ, zero, suc, cond, List, Some, None, Ok, Err, count_by, Option, Result}
+use Rattle.slots.specs.Slot.{read_slot, has_room, written, cleared}
 use Rattle.drives.specs.Place.{places, slot_at, with_slot, readings}
 use Rattle.drives.specs.View.{place_for}
 use Rattle.drives.specs.Rule.{names_slot}

@@ -1,5 +1,5 @@
 -- An object's frame: how long it is, and that the object and its length can be read off it again.
-use Rattle.std.proofs.Common.{◌≡◌, ℕ, zero, suc, ◌+◌, ◌-◌, ◌*◌, ◌/◌, ◌%◌, ◌<◌, ◌≤◌, List, [], ◌∷◌, ◌++◌, length, get_or, take, drop, replicate, sym, refl, ap, ◌∙◌, subst, ap₂, mod-lt, div-add-mod', mul-div_cancel, arith, lit<}
+use Rattle.std.proofs.Common.{◌≡◌, ℕ, zero, suc, ◌+◌, ◌-◌, ◌*◌, ◌/◌, ◌%◌, ◌<◌, ◌≤◌, List, [], ◌∷◌, ◌++◌, length, take, drop, replicate, sym, refl, ap, ◌∙◌, subst, ap₂, mod-lt, div-add-mod', mul-div_cancel, arith, lit<}
 use native.Mathlib.Nat.{div-div-eq-div-mul}
 use Rattle.std.proofs.lemmas.List.{length-append, length-replicate, append_assoc, replicate_more, take_at, drop_at, drop-drop, take-append-drop, length-take-le, length-drop}
 use Rattle.std.specs.List.{AllByRecursion as All}

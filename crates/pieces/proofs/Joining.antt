@@ -1,12 +1,11 @@
 -- From points and values that stand one after the other to the rows behind pieces.
-use Rattle.std.proofs.Common.{◌≡◌, ℕ, zero, suc, ◌+◌, ◌*◌, ◌/◌, ◌%◌, ◌<◌, ◌≤◌, Bool, true, false, cond, eqb, List, [], ◌∷◌, ◌++◌, map, length, get_or, take, drop, vec_items, sym, refl, ap, ◌∙◌, subst, ap₂, inl, inr, suc-mul, mul_comm, zero-mul, arith, lit<}
+use Rattle.std.proofs.Common.{◌≡◌, ℕ, zero, suc, ◌+◌, ◌*◌, ◌/◌, ◌%◌, ◌<◌, Bool, true, false, cond, eqb, List, [], ◌∷◌, ◌++◌, map, length, get_or, take, drop, vec_items, sym, refl, ap, ◌∙◌, subst, ap₂, inl, inr, suc-mul, mul_comm, zero-mul, arith, lit<}
 use mathlib.Core.List.Memᴰ
 use mathlib.Core.List.{Memᴰ}
 use native.Mathlib.Nat.{mul-div_cancel_left, mul-mod_right}
 use Rattle.std.specs.List.{flat_map, AllByRecursion as All}
 use Rattle.std.proofs.lemmas.List.{length-append, length-map, get_or_append_left, get_or-append_right}
 use Rattle.std.proofs.lemmas.Bool.{ne_eqb, eq-eqb, both_ways}
-use Rattle.byte_field.specs.Byte.{IsByte}
 use Rattle.elimination.specs.Interpolation.{Solved, reason, repeated, width_of, number}
 use Rattle.elimination.specs.Polynomial.{value, Bytes, Distinct}
 use Rattle.elimination.specs.declared.Unsolved.{Unsolved}

@@ -1,5 +1,5 @@
 -- That the object worked out of pieces is the one that they are of, and the only one.
-use Rattle.std.proofs.Common.{◌≡◌, ℕ, zero, suc, ◌+◌, ◌*◌, ◌/◌, ◌<◌, ◌≤◌, ◌⊎◌, List, [], ◌∷◌, map, length, take, drop, Ok, Err, vec_items, Result, Vec, sym, refl, ap, ◌∙◌, subst, ap₂, inl, inr, mul-div_cancel, arith, MatchResult}
+use Rattle.std.proofs.Common.{◌≡◌, ℕ, ◌+◌, ◌*◌, ◌/◌, ◌<◌, ◌≤◌, ◌⊎◌, List, [], ◌∷◌, map, length, take, drop, Ok, Err, vec_items, Result, Vec, sym, refl, ap, ◌∙◌, subst, ap₂, inl, inr, mul-div_cancel, arith, MatchResult}
 use mathlib.Core.List.Memᴰ
 use mathlib.Core.List.{Memᴰ}
 use Rattle.std.specs.List.{AllByRecursion as All}
@@ -7,8 +7,8 @@ use Rattle.std.proofs.ByRecursion.{All-take, All-drop}
 use Rattle.std.proofs.lemmas.List.{length-map, length-take}
 use Rattle.byte_field.specs.Byte.{IsByte}
 use Rattle.std.specs.declared.alloc.Global.{Global}
-use Rattle.elimination.specs.Polynomial.{Bytes, Distinct}
-use Rattle.pieces.specs.Given.{IsNeed, IsDrive, IsZero, drives, parts, pieces_of, width, Sound, RowsOf, Worked, Long, Filled, length_in}
+use Rattle.elimination.specs.Polynomial.{Bytes}
+use Rattle.pieces.specs.Given.{IsNeed, IsDrive, IsZero, drives, parts, pieces_of, width, Sound, RowsOf, Worked, length_in}
 use Rattle.pieces.specs.Outcomes.{MadeWork, Outcome, Read, Remade}
 use Rattle.pieces.specs.Refusals.{Made, NotMade, NotRead, Unreadable, NotWorked}
 use Rattle.pieces.specs.Rows.{MAX, values, piece_of, framed, rows_for}

@@ -1,5 +1,5 @@
 -- The values of rows: how many there are, which one stands where, and that enough of them determine the rows.
-use Rattle.std.proofs.Common.{◌≡◌, ℕ, zero, suc, ◌+◌, ◌*◌, ◌<◌, ◌≤◌, List, [], ◌∷◌, ◌++◌, length, get_or, take, drop, sym, refl, ap, ◌∙◌, ap₂, suc-mul, zero-mul, mul-suc, arith}
+use Rattle.std.proofs.Common.{◌≡◌, ℕ, zero, suc, ◌+◌, ◌*◌, ◌<◌, ◌≤◌, List, ◌∷◌, ◌++◌, length, get_or, take, drop, sym, refl, ap, ◌∙◌, ap₂, suc-mul, zero-mul, arith}
 use mathlib.Core.List.{Memᴰ}
 use Rattle.std.proofs.lemmas.List.{drop-drop, length-take-le, length-drop, take-append-drop, same_lists, nil_from_length, get_or_default, drop_all, drop_more, length-take, get_or-take, get_or-drop}
 use Rattle.std.proofs.lemmas.Nat.{mul-le}

@@ -15,7 +15,7 @@ returns c =
     let e = c.bounds-from.ensures.0 in
     let f = c.bounds-from.ensures.1 in
     let new = cleared o d (slot_at bytes o k) in
-    let named = c.if-not-is-named.ensures in
+    let named = c.if-not-is_named.ensures in
     record {
       answer = named;
       after =

@@ -7,7 +7,7 @@ use Rattle.drives.specs.Steps.{taken_at, taken_below}
 use Rattle.drives.proofs.Counting.{length_readings}
 use Rattle.drives.proofs.Taking.{taken_more, count_yes, count_no}
 use Rattle.drives.proofs.piece.take_away.Goals as goal
-use Rattle.drives.proofs.piece.take_away.Goals.{then-take-at, else-take-at}
+use Rattle.drives.proofs.piece.take_away.Goals.{then-take_at, else-take_at}
 
 pub loop-place-init : goal.loop-place-init
 unfolding taken_below
@@ -22,11 +22,11 @@ loop-place-preserved c =
     let rule = c.args.rule in
     let inv = c.loop-place.invariant in
     let h = c.loop-place-test.true in
-    let named = c.take-at.ensures.answer ∙ ap (λ l. names_slot rule (read_slot o d (slot_at l o i))) inv.0 in
-    let last = taken_more bytes c.take-at.new.drive o d i rule (c.take-at.ensures.after ∙ ap (λ l. taken_at l o d i rule) inv.0) in
-    elim c.if-take-at.branch [
-      | then-take-at w ↦ (last, w.gone-is ∙ count_yes bytes o d i c.loop-place.gone rule h (sym w.if-take-at.true ∙ named) inv.1, omega (arith, w.gone-is))
-      | else-take-at w ↦ (last, w.gone-is ∙ count_no bytes o d i c.loop-place.gone rule h (sym w.if-take-at.false ∙ named) inv.1, omega (arith, w.gone-is))
+    let named = c.take_at.ensures.answer ∙ ap (λ l. names_slot rule (read_slot o d (slot_at l o i))) inv.0 in
+    let last = taken_more bytes c.take_at.new.drive o d i rule (c.take_at.ensures.after ∙ ap (λ l. taken_at l o d i rule) inv.0) in
+    elim c.if-take_at.branch [
+      | then-take_at w ↦ (last, w.gone-is ∙ count_yes bytes o d i c.loop-place.gone rule h (sym w.if-take_at.true ∙ named) inv.1, omega (arith, w.gone-is))
+      | else-take_at w ↦ (last, w.gone-is ∙ count_no bytes o d i c.loop-place.gone rule h (sym w.if-take_at.false ∙ named) inv.1, omega (arith, w.gone-is))
     ]
 
 pub returns : goal.returns

@@ -1,4 +1,4 @@
-use Rattle.std.proofs.Common.{◌≡◌, ℕ, ◌+◌, ◌-◌, ◌++◌, length, replicate, vec_items}
+use Rattle.std.proofs.Common.{◌≡◌, ◌+◌, ◌-◌, ◌++◌, length, replicate, vec_items}
 use Rattle.pieces.specs.Rows.{length_bytes}
 use Rattle.pieces.proofs.making.frame.Given as goal
 

@@ -4,5 +4,5 @@ use Rattle.pieces.proofs.making.step.Goals as goal
 
 pub returns : goal.returns
 returns c r h =
-    c.add-column.ensures r (omega arith)
+    c.add_column.ensures r (omega arith)
     ∙ ap (add (get_or c.args.flat.now (r * c.args.need + c.args.column) 0)) (c.scale.ensures r h)
