@@ -1,22 +1,19 @@
 -- From the pieces that the code hands on to what the definitions say of them.
-use Rattle.std.proofs.Common.{◌≡◌, ℕ, zero, suc, ◌+◌, ◌-◌, ◌*◌, ◌/◌, ◌<◌, ◌≤◌, true, false, cond, leb, List, [], ◌∷◌, map, length, take, Some, None, vec_items, vec_len, Option, Vec, sym, refl, ap, ◌∙◌, suc-mul, mul-le-mul_left, arith, MatchOption, MatchResult}
+use Rattle.std.proofs.Common.{◌≡◌, ℕ, zero, suc, ◌+◌, ◌*◌, ◌<◌, ◌≤◌, List, [], ◌∷◌, map, length, take, Some, None, vec_items, sym, refl, ap, ◌∙◌, suc-mul, mul-le-mul_left, arith}
 use native.Mathlib.Nat.{div-le_of_le-mul}
 use Rattle.std.proofs.lemmas.List.{length-map, take-map}
 use Rattle.std.proofs.lemmas.Bool.{le-leb, lt-leb}
-use Rattle.std.specs.Option.{option_map}
 use Rattle.std.specs.List.{AllByRecursion as All}
-use Rattle.std.specs.declared.alloc.Global.{Global}
-use Rattle.elimination.specs.Polynomial.{Bytes, Distinct}
 use Rattle.pieces.proofs.Uniqueness.{made_work}
 use Rattle.pieces.proofs.Values.{length_values}
 use Rattle.pieces.specs.Given.{IsNeed, IsDrive, drives, parts as their_parts, Worked as TheirWorked}
 use Rattle.pieces.specs.Refusals.{Made}
 use Rattle.pieces.specs.declared.working.Piece.{Piece}
-use Rattle.pieces.specs.Rows.{MAX, LAST, rows_for, piece_of}
+use Rattle.pieces.specs.Rows.{MAX, rows_for, piece_of}
 use Rattle.slots.specs.Layout.{record_of, record_for, piece_room}
 use Rattle.keeper.specs.Object.{Reading, Setup}
 use Rattle.keeper.specs.Readings.{pieces_of, given, content_of}
-use Rattle.keeper.specs.Real.{piece_given, on_drives, parts, Fits, WorkOut, WorksOut, codec_of, Worked}
+use Rattle.keeper.specs.Real.{piece_given, on_drives, parts, Fits, WorkOut, WorksOut, codec_of}
 
 -- A piece is no longer than its object with its length.
 pub piece_short : (need d : ℕ) (c : List ℕ) → 0 < need → length (piece_of need d c) ≤ 4 + length c

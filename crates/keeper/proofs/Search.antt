@@ -1,9 +1,9 @@
 -- The steps of the loop that looks for the highest version that can be settled on.
-use Rattle.std.proofs.Common.{◌≡◌, ℕ, ◌+◌, ◌<◌, ◌≤◌, List, map, length, get_or, drop, sym, refl, ap, ◌∙◌}
+use Rattle.std.proofs.Common.{◌≡◌, ℕ, ◌+◌, ◌<◌, ◌≤◌, List, length, get_or, drop}
 use Rattle.std.proofs.lemmas.List.{drop_all}
 use Rattle.keeper.specs.declared.object.Entry.{Entry}
 use Rattle.keeper.specs.Object.{Reading, Setup, Codec}
-use Rattle.keeper.specs.Shown.{reading_of, readings_of}
+use Rattle.keeper.specs.Shown.{readings_of}
 use Rattle.keeper.specs.Steps.{Found, better, highest}
 use Rattle.keeper.proofs.Scan.{drop_read}
 

@@ -1,6 +1,6 @@
 -- What the pieces that were read of an object say: who has a version, where a new piece can go, and from what a version is worked out.
 -- Assumes nothing.
-use Rattle.std.specs.Prelude.{ℕ, zero, suc, ◌+◌, Bool, true, false, cond, not, ◌&&◌, ◌||◌, List, [], ◌∷◌, ◌++◌, map, length, take, Some, None, filter, Option, ◌==◌, nat_le, nat_lt}
+use Rattle.std.specs.Prelude.{ℕ, zero, suc, ◌+◌, Bool, true, false, cond, not, ◌&&◌, ◌||◌, List, [], ◌∷◌, map, length, take, Some, None, filter, Option, ◌==◌, nat_le, nat_lt}
 use Rattle.keeper.specs.Object.{Reading, Setup, Codec, Act, clear_slot}
 
 -- Some element passes.

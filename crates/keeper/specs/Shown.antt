@@ -1,7 +1,6 @@
 -- What the code's values stand for: the same with lists where the code has a Vec.
 -- Assumes nothing.
 use Rattle.std.specs.Prelude.{◌≡◌, ℕ, Bool, false, ◌⊎◌, List, map, length, vec_items, slice_index_or}
-use Rattle.keeper.specs.declared.refusal.Refusal.{Refusal}
 use Rattle.keeper.specs.declared.refusal.Refusal.TheVariants.{NoMemory}
 use Rattle.keeper.specs.declared.object.Known.{Known}
 use Rattle.keeper.specs.declared.object.Known.TheVariants.{Unsure, Counts, Writing}

@@ -1,11 +1,11 @@
 -- The keeper's steps on one object: from the state, the pieces that are read and the step's words to the answer, the acts in their order, and the new state.
 -- Each step is a chain of tests in the order of the refusals' numbers, so the lowest number wins, and a refusal changes nothing.
 -- Assumes nothing.
-use Rattle.std.specs.Prelude.{ℕ, ◌+◌, ◌^◌, Bool, true, false, cond, not, ◌&&◌, ◌||◌, List, [], ◌∷◌, ◌++◌, map, length, Some, None, filter, Option, ◌==◌, nat_le, nat_lt}
+use Rattle.std.specs.Prelude.{ℕ, ◌+◌, ◌^◌, Bool, true, cond, not, ◌&&◌, ◌||◌, List, [], ◌∷◌, ◌++◌, length, Some, None, filter, Option, ◌==◌, nat_le, nat_lt}
 use Rattle.keeper.specs.declared.refusal.Refusal.{Refusal}
 use Rattle.keeper.specs.declared.refusal.Refusal.TheVariants.{NoSuch, TooLong, Unsure, BeingWritten, NotBeingWritten, NotUnsure, DriveOut, NoPlace, NotEverywhere, TooFewIn, TooFewPieces, CountsNone, BadFile, NoMoreVersions, NoMemory}
-use Rattle.keeper.specs.Object.{Knowledge, unsure, counts, writing, Reading, Act, write_slot, clear_slot, replace_file, Reply, refused, done, is_version, has, none, removed, mended, found, unknown, State, Outcome, Setup, Codec, refuse}
-use Rattle.keeper.specs.Readings.{holder, place_for, pieces_of, content_of, clears, how_many_in, all_have}
+use Rattle.keeper.specs.Object.{Knowledge, unsure, counts, writing, Reading, Act, write_slot, replace_file, Reply, done, is_version, has, none, removed, mended, found, unknown, State, Outcome, Setup, Codec, refuse}
+use Rattle.keeper.specs.Readings.{holder, place_for, content_of, clears, how_many_in, all_have}
 
 -- The number of each refusal, as it is told.
 abbrev pub number : Refusal → ℕ

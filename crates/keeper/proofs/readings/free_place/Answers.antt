@@ -5,12 +5,12 @@ use Rattle.keeper.proofs.readings.free_place.Goals as goal
 
 pub loop-place-preserved : goal.loop-place-preserved
 loop-place-preserved c =
-    sym (free_again c.args.drive (readings_of c.args.entries.now) c.loop-place.place 4 c.loop-place-test.true (sym c.is-taken.ensures ∙ c.if-not-is-taken.false))
+    sym (free_again c.args.drive (readings_of c.args.entries.now) c.loop-place.place 4 c.loop-place-test.true (sym c.is_taken.ensures ∙ c.if-not-is_taken.false))
     ∙ c.loop-place.invariant
 
-pub returns-then-not-is-taken : goal.returns-then-not-is-taken
-returns-then-not-is-taken c =
-    sym (free_found c.args.drive (readings_of c.args.entries.now) c.loop-place.place 4 c.loop-place-test.true (sym c.is-taken.ensures ∙ c.if-not-is-taken.true))
+pub returns-then-not-is_taken : goal.returns-then-not-is_taken
+returns-then-not-is_taken c =
+    sym (free_found c.args.drive (readings_of c.args.entries.now) c.loop-place.place 4 c.loop-place-test.true (sym c.is_taken.ensures ∙ c.if-not-is_taken.true))
     ∙ c.loop-place.invariant
 
 pub returns : goal.returns

@@ -6,12 +6,12 @@ use Rattle.keeper.proofs.readings.is_holder.Goals as goal
 pub loop-entry-preserved : goal.loop-entry-preserved
 loop-entry-preserved c =
     any_again (is_of c.args.drive c.args.version) reading_of c.args.entries.now c.loop-entry.entry-index _ c.loop-entry.invariant
-    c.entry-item.result c.is-of.result c.loop-entry-test.true c.entry-item.is c.is-of.ensures c.if-is-of.false
+    c.entry-item.result c.is_of.result c.loop-entry-test.true c.entry-item.is c.is_of.ensures c.if-is_of.false
 
-pub returns-then-is-of : goal.returns-then-is-of
-returns-then-is-of c =
+pub returns-then-is_of : goal.returns-then-is_of
+returns-then-is_of c =
     any_found (is_of c.args.drive c.args.version) reading_of c.args.entries.now c.loop-entry.entry-index _ c.loop-entry.invariant
-    c.entry-item.result c.is-of.result c.loop-entry-test.true c.entry-item.is c.is-of.ensures c.if-is-of.true
+    c.entry-item.result c.is_of.result c.loop-entry-test.true c.entry-item.is c.is_of.ensures c.if-is_of.true
 
 pub returns : goal.returns
 returns c =

@@ -1,5 +1,5 @@
 use Rattle.std.proofs.Common.{◌≡◌, drop}
-use Rattle.keeper.specs.Shown.{reading_of, readings_of}
+use Rattle.keeper.specs.Shown.{readings_of}
 use Rattle.keeper.specs.Readings.{any_of, is_of}
 use Rattle.keeper.proofs.readings.is_holder.Given as goal
 

@@ -6,12 +6,12 @@ use Rattle.keeper.proofs.readings.is_taken.Goals as goal
 pub loop-entry-preserved : goal.loop-entry-preserved
 loop-entry-preserved c =
     any_again (counts_at (readings_of c.args.entries.now) c.args.drive c.args.place) reading_of c.args.entries.now c.loop-entry.entry-index _ c.loop-entry.invariant
-    c.entry-item.result c.counts-at.result c.loop-entry-test.true c.entry-item.is c.counts-at.ensures c.if-counts-at.false
+    c.entry-item.result c.counts_at.result c.loop-entry-test.true c.entry-item.is c.counts_at.ensures c.if-counts_at.false
 
-pub returns-then-counts-at : goal.returns-then-counts-at
-returns-then-counts-at c =
+pub returns-then-counts_at : goal.returns-then-counts_at
+returns-then-counts_at c =
     any_found (counts_at (readings_of c.args.entries.now) c.args.drive c.args.place) reading_of c.args.entries.now c.loop-entry.entry-index _ c.loop-entry.invariant
-    c.entry-item.result c.counts-at.result c.loop-entry-test.true c.entry-item.is c.counts-at.ensures c.if-counts-at.true
+    c.entry-item.result c.counts_at.result c.loop-entry-test.true c.entry-item.is c.counts_at.ensures c.if-counts_at.true
 
 pub returns : goal.returns
 returns c =

@@ -1,4 +1,4 @@
-use Rattle.std.proofs.Common.{◌≡◌, [], ◌++◌, map, length, vec_items, sym, ap, ◌∙◌, inl}
+use Rattle.std.proofs.Common.{◌≡◌, ◌++◌, map, vec_items, ap, ◌∙◌, inl}
 use Rattle.keeper.specs.Readings.{clears}
 use Rattle.keeper.specs.Rules.{names}
 use Rattle.keeper.specs.Shown.{act_of, readings_of}
