@@ -5,7 +5,7 @@ use Rattle.std.proofs.lemmas.Bool.{eq-eqb, leb-true, le-leb, not-true}
 use Rattle.std.proofs.lemmas.List.{take-map, length-map, length-take-le}
 use Rattle.keeper.specs.Object.{Reading, Codec}
 use Rattle.keeper.specs.Readings.{any_of, pieces_of, given, content_of}
-use Rattle.recovery.specs.Disk.{Site, Disk, readings_of, has, how_many}
+use Rattle.recovery.specs.Disk.{Site, Disk, readings_of, how_many}
 use Rattle.recovery.specs.Laws.{Content, Laws, Distinct, pieces_on}
 use Rattle.recovery.specs.World.{setup, weak}
 use Rattle.recovery.proofs.Lists.{any_mem, mem_take, mem_map, distinct_take, how_many_mono, how_many_not, how_many_keys}

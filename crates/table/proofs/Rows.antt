@@ -1,6 +1,6 @@
 -- What stands in the table for an object, and what a change of one object leaves.
-use Rattle.std.proofs.Common.{◌≡◌, ℕ, ◌+◌, ◌<◌, ◌≤◌, Bool, leb, List, [], ◌∷◌, ◌++◌, map, length, get_or, set, replicate, sym, refl, ap, ◌∙◌, subst, arith}
-use Rattle.std.proofs.lemmas.List.{length-map, get_or-map, get_or_past, set_past, map_push, map-set, replicate_more}
+use Rattle.std.proofs.Common.{◌≡◌, ℕ, ◌+◌, ◌<◌, ◌≤◌, Bool, leb, List, [], ◌∷◌, ◌++◌, map, length, get_or, set, replicate, sym, ap, ◌∙◌, subst, arith}
+use Rattle.std.proofs.lemmas.List.{length-map, get_or-map, get_or_past, set_past, map_push, replicate_more}
 use Rattle.std.proofs.lemmas.Bool.{cond-false, lt-leb}
 use Rattle.keeper.specs.declared.object.Known.{Known}
 use Rattle.keeper.specs.declared.object.Step.{Step}

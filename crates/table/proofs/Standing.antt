@@ -1,12 +1,11 @@
 -- The laws of the table of objects.
-use Rattle.std.proofs.Common.{◌≡◌, ℕ, ◌<◌, true, cond, ltb, List, map, length, get_or, set, vec_items, vec_len, sym, refl, ap, ◌∙◌, arith}
+use Rattle.std.proofs.Common.{◌≡◌, ℕ, ◌<◌, ltb, length, get_or, vec_items, ap, ◌∙◌, arith}
 use Rattle.std.proofs.lemmas.List.{length-map, get_or-set_same, get_or-set_other}
 use Rattle.std.proofs.lemmas.Bool.{cond-true, lt-ltb}
 use Rattle.drives.specs.Place.{objects}
-use Rattle.table.specs.declared.table.Keeper.{Keeper}
 use Rattle.keeper.specs.Object.{Knowledge, unsure, State}
 use Rattle.keeper.specs.Shown.{known_of}
-use Rattle.table.specs.Table.{knowledge, bars_of, state_at, Lent, Accepted, Stands, TableStands, OthersStand, Table}
+use Rattle.table.specs.Table.{knowledge, bars_of, state_at, TableStands, OthersStand, Table}
 
 -- A state is its four parts.
 abbrev of : Knowledge → (bar next number : ℕ) → State

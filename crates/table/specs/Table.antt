@@ -3,15 +3,13 @@
 use Rattle.std.specs.Prelude.{◌≡◌, ℕ, ◌<◌, Bool, true, cond, ◌&&◌, ◌⊎◌, List, map, take, replicate, Some, None, Ok, Err, vec_items, Option, Result, MatchResult, ◌≢◌, nat_le, nat_lt, slice_index, slice_index_or, slice_set}
 use Rattle.std.specs.Option.{ok_or}
 use Rattle.drives.specs.Place.{objects}
-use Rattle.drives.specs.State.{may_count}
 use Rattle.drives.specs.declared.states.Drives.{Drives}
-use Rattle.keeper.specs.declared.object.Object.{Object}
 use Rattle.keeper.specs.declared.refusal.Refusal.{Refusal}
 use Rattle.keeper.specs.declared.refusal.Refusal.TheVariants.{NoSuch, BadFile, NoMemory}
 use Rattle.table.specs.declared.table.Keeper.{Keeper}
 use Rattle.table.specs.File.{read_file}
-use Rattle.keeper.specs.Object.{Knowledge, unsure, counts, writing, State, Outcome, Setup, refuse}
-use Rattle.keeper.specs.Shown.{known_of, state_of, setup_of}
+use Rattle.keeper.specs.Object.{Knowledge, unsure, counts, writing, State, Outcome, Setup}
+use Rattle.keeper.specs.Shown.{known_of, setup_of}
 use Rattle.keeper.specs.Steps.{unless}
 
 -- What is known of each object, and the bars.

@@ -7,8 +7,8 @@ use Rattle.pieces.specs.Rows.{rows_for, MAX}
 use Rattle.pieces.proofs.reading.read.Goals as goal
 
 -- The tests, in the words of the definitions.
-long_is : (goal n size : ℕ) (flat : List ℕ) → n ≡ length_in flat → n ≤ MAX → size ≡ rows_for goal n * goal → length flat ≡ size → Long goal flat
-long_is goal n size flat e h is l = (omega arith, l ∙ is ∙ ap (λ k. rows_for goal k * goal) e)
+long_is : (need n size : ℕ) (flat : List ℕ) → n ≡ length_in flat → n ≤ MAX → size ≡ rows_for need n * need → length flat ≡ size → Long need flat
+long_is need n size flat e h is l = (omega arith, l ∙ is ∙ ap (λ k. rows_for need k * need) e)
 
 rest_is : (n : ℕ) (flat : List ℕ) → n ≡ length_in flat → take (length flat - (4 + n)) (drop (4 + n) flat) ≡ drop (4 + length_in flat) flat
 rest_is n flat e = take_rest flat (4 + n) ∙ ap (λ k. drop (4 + k) flat) e

@@ -17,7 +17,7 @@ pub returns : goal.returns
 returns c =
     let items = vec_items c.args.known.now in
     record {
-      value = ap known_of c.replace.ensures.value ∙ known_read items c.args.at c.index-mut.result.now (omega arith) c.index-mut.ensures.value;
+      value = ap known_of c.replace.ensures.value ∙ known_read items c.args.at c.index_mut.result.now (omega arith) c.index_mut.ensures.value;
       after = map-set known_of items c.args.at c.replace.new.dest ∙ ap (λ k. set (map known_of items) c.args.at (known_of k)) c.replace.ensures.after;
       len = refl;
     }

@@ -8,7 +8,7 @@ use Rattle.table.proofs.table.Keeper.accept.Goals as goal
 pub returns-then-object : goal.returns-then-object
 returns-then-object c =
     record {
-      goal = refl;
+      need = refl;
       drives = refl;
       known = known_stays (vec_items c.args.self.now.known) c.args.object (known_of c.args.state.known) (omega arith);
       bars = sym (set_past (vec_items c.args.self.now.bars) c.args.object c.args.state.bar (omega arith));

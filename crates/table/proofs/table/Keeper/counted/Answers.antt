@@ -5,4 +5,4 @@ use Rattle.table.proofs.table.Keeper.counted.Goals as goal
 
 pub returns : goal.returns
 returns c =
-    c.counted-of.ensures ∙ ap counted_of (known_read (vec_items c.args.self.now.known) c.args.object c.index.result.now (omega arith) c.index.ensures)
+    c.counted_of.ensures ∙ ap counted_of (known_read (vec_items c.args.self.now.known) c.args.object c.index.result.now (omega arith) c.index.ensures)
