@@ -3,7 +3,7 @@
 use Rattle.std.proofs.Common.{◌≡◌, ℕ, ◌<◌, ◌≤◌, T, ltb, leb, List, [], ◌∷◌, length, Some, sym, refl, subst, inl, inr, arith, lit<, lit≤, ltb→lt, leb→le}
 use mathlib.Core.List.Memᴰ
 use mathlib.Core.List.{Memᴰ}
-use Rattle.std.specs.List.{AllByRecursion as All}
+use Rattle.std.specs.List.{AllByRecursion}
 use Rattle.byte_field.specs.Byte.{IsByte}
 use Rattle.elimination.specs.Polynomial.{Bytes}
 use Rattle.pieces.specs.Rows.{MAX, LAST, piece_of}

@@ -2,7 +2,7 @@
 use Rattle.std.proofs.Common.{◌≡◌, ℕ, zero, suc, ◌<◌, ◌≤◌, Bool, true, ltb, leb, List, [], ◌∷◌, map, length, Some, None, Decides, sym, refl, ap, ◌∙◌, ap₂, inl, inr, arith}
 use mathlib.Core.List.Memᴰ
 use mathlib.Core.List.{Memᴰ}
-use Rattle.std.specs.List.{list_all, AllByRecursion as All}
+use Rattle.std.specs.List.{list_all, AllByRecursion}
 use Rattle.std.specs.Str.{bytes_eq}
 use Rattle.std.proofs.lemmas.Slice.Eq.{bytes_eq-Decides}
 use Rattle.std.proofs.lemmas.Bool.{and_parts, and_from, eqb-true, eq-eqb, leb-true, le-leb, ltb-true, lt-ltb, not-true, not_from_false, both_ways, cases_eq, cases_Bool, cond-true, cond-false}
@@ -59,24 +59,24 @@ first_none test (c ∷ cs) never =
     elim (cases_Bool (test c)) [ inl e ↦ absurd (never c e) | inr e ↦ cond-false (test c) _ _ e ∙ first_none test cs never ]
 
 -- The test decides what it is a test of.
-pieces_to : (need : ℕ) (c : List ℕ) (ps : List (ℕ × List ℕ)) → All (λ p. p.1 ≡ piece_of need p.0 c) ps → parts ps ≡ map (λ d. piece_of need d c) (on_drives ps)
+pieces_to : (need : ℕ) (c : List ℕ) (ps : List (ℕ × List ℕ)) → AllByRecursion (λ p. p.1 ≡ piece_of need p.0 c) ps → parts ps ≡ map (λ d. piece_of need d c) (on_drives ps)
 pieces_to need c [] h = refl
 pieces_to need c (p ∷ ps) h = ap₂ ◌∷◌ h.0 (pieces_to need c ps h.1)
 
-pieces_from : (need : ℕ) (c : List ℕ) (ps : List (ℕ × List ℕ)) → parts ps ≡ map (λ d. piece_of need d c) (on_drives ps) → All (λ p. p.1 ≡ piece_of need p.0 c) ps
+pieces_from : (need : ℕ) (c : List ℕ) (ps : List (ℕ × List ℕ)) → parts ps ≡ map (λ d. piece_of need d c) (on_drives ps) → AllByRecursion (λ p. p.1 ≡ piece_of need p.0 c) ps
 pieces_from need c [] e = tt
 pieces_from need c (p ∷ ps) e =
     let here : p.1 ≡ piece_of need p.0 c = cc in
     let rest : parts ps ≡ map (λ d. piece_of need d c) (on_drives ps) = cc in
     (here, pieces_from need c ps rest)
 
-drives_decide : (ds : List ℕ) → Decides (list_all (λ d. leb d LAST) ds) (All (λ d. d ≤ LAST) ds)
+drives_decide : (ds : List ℕ) → Decides (list_all (λ d. leb d LAST) ds) (AllByRecursion (λ d. d ≤ LAST) ds)
 drives_decide ds = Decides-by_and (λ d. leb d LAST) (λ d. d ≤ LAST) (list_all (λ d. leb d LAST)) (λ d. (leb-true d LAST, le-leb d LAST)) refl (λ d ds. refl) ds
 
 bytes_decide : (c : List ℕ) → Decides (list_all (λ b. ltb b 256) c) (Bytes c)
 bytes_decide c = Decides-by_and (λ b. ltb b 256) (λ b. b < 256) (list_all (λ b. ltb b 256)) (λ b. (ltb-true b 256, lt-ltb b 256)) refl (λ b c. refl) c
 
-pieces_decide : (need : ℕ) (c : List ℕ) (ps : List (ℕ × List ℕ)) → Decides (list_all (λ p. bytes_eq p.1 (piece_of need p.0 c)) ps) (All (λ p. p.1 ≡ piece_of need p.0 c) ps)
+pieces_decide : (need : ℕ) (c : List ℕ) (ps : List (ℕ × List ℕ)) → Decides (list_all (λ p. bytes_eq p.1 (piece_of need p.0 c)) ps) (AllByRecursion (λ p. p.1 ≡ piece_of need p.0 c) ps)
 pieces_decide need c ps =
     let test : ℕ × List ℕ → Bool = λ p. bytes_eq p.1 (piece_of need p.0 c) in
     Decides-by_and test (λ p. p.1 ≡ piece_of need p.0 c) (list_all test) (λ p. bytes_eq-Decides p.1 (piece_of need p.0 c)) refl (λ p ps. refl) ps

@@ -1,6 +1,6 @@
 -- Blocks of one length, one after the other: where each stands, and that they make up the list.
 use Rattle.std.proofs.Common.{◌≡◌, ℕ, zero, suc, ◌+◌, ◌-◌, ◌*◌, ◌/◌, ◌%◌, ◌<◌, ◌≤◌, List, [], ◌∷◌, ◌++◌, map, length, get_or, take, drop, sym, ap, ◌∙◌, inl, inr, mul-le-mul_right, suc-mul, div-add-mod', zero-mul, add-one, arith}
-use Rattle.std.specs.List.{range_with_len, AllByRecursion as All}
+use Rattle.std.specs.List.{range_with_len, AllByRecursion}
 use Rattle.std.proofs.lemmas.List.{length-append, take-append-le, drop-append-le, drop_at, take_all, get_or-take, get_or-drop, ext_get_or, length-drop, append_assoc}
 use Rattle.std.proofs.lemmas.List.FromFn.{map-range_with_len_more}
 use Rattle.std.proofs.ByRecursion.{All-append}
@@ -44,7 +44,7 @@ module _ (f : ℕ → List ℕ) (w : ℕ) where
       sym (get_or-drop (i * w) (blocks f n) t 0) ∙ sym (get_or-take w (drop (i * w) (blocks f n)) t 0 l)
       ∙ ap (λ (xs : List ℕ). get_or xs t 0) (block_at n i each h)
 
-pub all_blocks : (P : ℕ → Type 0) (f : ℕ → List ℕ) (n : ℕ) → ((i : ℕ) → All P (f i)) → All P (blocks f n)
+pub all_blocks : (P : ℕ → Type 0) (f : ℕ → List ℕ) (n : ℕ) → ((i : ℕ) → AllByRecursion P (f i)) → AllByRecursion P (blocks f n)
 unfolding blocks
 all_blocks P f zero h = tt
 all_blocks P f (suc n) h = All-append P (blocks f n) (f n) (all_blocks P f n h) (h n)

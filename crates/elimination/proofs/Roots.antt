@@ -2,7 +2,7 @@
 use Rattle.std.proofs.Common.{◌≡◌, ℕ, suc, ◌≤◌, List, [], ◌∷◌, length, sym, refl, ap, ◌∙◌, subst, ap₂, inl, inr, arith}
 use mathlib.Core.List.Memᴰ
 use mathlib.Core.List.{Memᴰ}
-use Rattle.std.specs.List.{AllByRecursion as All}
+use Rattle.std.specs.List.{AllByRecursion}
 use Rattle.byte_field.specs.Byte.{add, mul, IsByte}
 use Rattle.byte_field.proofs.Laws as laws
 use Rattle.elimination.specs.Polynomial.{value, Bytes, Distinct, Determined}
@@ -15,7 +15,7 @@ value_byte (c ∷ cs) x = laws.add_byte c (mul x (value cs x))
 
 -- All coefficients are 0.
 abbrev pub Zeros : List ℕ → Type 0
-Zeros cs = All (λ c. c ≡ 0) cs
+Zeros cs = AllByRecursion (λ c. c ≡ 0) cs
 
 -- The values at `a` of what is left of the coefficients, from each place on: `a` divided out.
 unfoldable pub down : ℕ → List ℕ → List ℕ
@@ -78,7 +78,7 @@ down_zeros a (c ∷ cs) b h =
     (cc (h.0, zeros_value cs a rest, laws.mul_zero a, laws.add_zero c b.0), rest)
 
 -- What all elements are, a member is.
-pub all_mem : (P : ℕ → Type 0) (xs : List ℕ) (x : ℕ) → All P xs → Memᴰ x xs → P x
+pub all_mem : (P : ℕ → Type 0) (xs : List ℕ) (x : ℕ) → AllByRecursion P xs → Memᴰ x xs → P x
 all_mem P [] x h m = absurd (Memᴰ.not-nil m)
 all_mem P (y ∷ ys) x h m =
     elim (Memᴰ.cases_cons m) [ inl e ↦ subst P (sym e) h.0 | inr m' ↦ all_mem P ys x h.1 m' ]

@@ -1,7 +1,7 @@
 -- Matrices of bytes that stand row after row in one list, and what elimination keeps true of them.
 -- Assumes nothing.
 use Rattle.std.specs.Prelude.{◌≡◌, ℕ, zero, suc, ◌+◌, ◌*◌, ◌<◌, ◌≤◌, List, [], ◌∷◌, ◌++◌, map, length, take, drop, Some, None, Option, ◌≢◌, slice_index}
-use Rattle.std.specs.List.{range_with_len, AllByRecursion as All}
+use Rattle.std.specs.List.{range_with_len, AllByRecursion}
 use Rattle.byte_field.specs.Byte.{add, mul, inv}
 use Rattle.elimination.specs.Polynomial.{Bytes}
 
@@ -49,7 +49,7 @@ pub record Vanishes (k w : ℕ) (m zs : List ℕ) : Type 0 where
 
 -- All elements are 0.
 abbrev pub Zeros : List ℕ → Type 0
-Zeros zs = All (λ z. z ≡ 0) zs
+Zeros zs = AllByRecursion (λ z. z ≡ 0) zs
 
 -- The first k columns of a matrix with k rows are independent: only zeros combine them to 0.
 pub record Independent (k w : ℕ) (m : List ℕ) : Type 0 where

@@ -2,7 +2,7 @@
 -- Assumes nothing.
 use Rattle.std.specs.Prelude.{◌≡◌, ℕ, ◌≤◌, List, [], ◌∷◌, length}
 use mathlib.Core.List.{Memᴰ}
-use Rattle.std.specs.List.{AllByRecursion as All}
+use Rattle.std.specs.List.{AllByRecursion}
 use Rattle.byte_field.specs.Byte.{add, mul, IsByte}
 
 -- The value at x of the polynomial with these coefficients, that of x to the 0 first.
@@ -12,7 +12,7 @@ value (c ∷ cs) x = add c (mul x (value cs x))
 
 -- All elements are bytes.
 abbrev pub Bytes : List ℕ → Type 0
-Bytes xs = All IsByte xs
+Bytes xs = AllByRecursion IsByte xs
 
 -- No element stands twice.
 abbrev pub Distinct : List ℕ → Type 0

@@ -3,7 +3,7 @@ use Rattle.std.proofs.Common.{◌≡◌, ℕ, zero, suc, ◌+◌, ◌*◌, ◌<�
 use native.Mathlib.Nat.{div-le_of_le-mul}
 use Rattle.std.proofs.lemmas.List.{length-map, take-map}
 use Rattle.std.proofs.lemmas.Bool.{le-leb, lt-leb}
-use Rattle.std.specs.List.{AllByRecursion as All}
+use Rattle.std.specs.List.{AllByRecursion}
 use Rattle.pieces.proofs.Uniqueness.{made_work}
 use Rattle.pieces.proofs.Values.{length_values}
 use Rattle.pieces.specs.Given.{IsNeed, IsDrive, drives, parts as their_parts, Worked as TheirWorked}
@@ -52,7 +52,7 @@ fits_worked need ps c w =
       pieces = rw (drives_given ps, parts_given ps) w.pieces_are;
     }
 
-all_made : (need : ℕ) (c : List ℕ) (ps : List Piece) → IsNeed need → length c ≤ MAX → All IsDrive (drives ps) → their_parts ps ≡ map (λ d. piece_of need d c) (drives ps) → All (λ p. Made need p.drive c (vec_items p.bytes)) ps
+all_made : (need : ℕ) (c : List ℕ) (ps : List Piece) → IsNeed need → length c ≤ MAX → AllByRecursion IsDrive (drives ps) → their_parts ps ≡ map (λ d. piece_of need d c) (drives ps) → AllByRecursion (λ p. Made need p.drive c (vec_items p.bytes)) ps
 all_made need c [] n l ds e = tt
 all_made need c (p ∷ ps) n l ds e =
     (record { need_is = n; drive_is = ds.0; length_is = l; piece_is = cc }, all_made need c ps n l ds.1 (cc))
@@ -60,7 +60,7 @@ all_made need c (p ∷ ps) n l ds e =
 -- And what fits them is worked out.
 pub worked_fits : (need : ℕ) (ps : List Piece) (c : List ℕ) → IsNeed need → Fits need (map piece_given ps) c → TheirWorked need ps c
 worked_fits need ps c n f =
-    let ds : All IsDrive (drives ps) = rw (drives_given ps) at f.drives in
+    let ds : AllByRecursion IsDrive (drives ps) = rw (drives_given ps) at f.drives in
     let es : their_parts ps ≡ map (λ d. piece_of need d c) (drives ps) = rw (drives_given ps, parts_given ps) at f.pieces in
     made_work need ps c n.0 (sym (length-map ps piece_given) ∙ f.many) (rw (drives_given ps) at f.distinct) f.bytes (all_made need c ps n f.short ds es)
 

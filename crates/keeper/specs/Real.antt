@@ -2,7 +2,7 @@
 -- Assumes nothing.
 use Rattle.std.specs.Prelude.{◌≡◌, ℕ, ◌≤◌, List, map, length, IfSome, Some, None, vec_items, vec_len, Option, Vec}
 use Rattle.std.specs.Option.{option_map}
-use Rattle.std.specs.List.{AllByRecursion as All}
+use Rattle.std.specs.List.{AllByRecursion}
 use Rattle.std.specs.declared.alloc.Global.{Global}
 use Rattle.elimination.specs.Polynomial.{Bytes, Distinct}
 use Rattle.pieces.specs.Rows.{MAX, LAST, piece_of}
@@ -27,7 +27,7 @@ piece_given p = (p.drive, vec_items p.bytes)
 -- A content has these pieces: as many as are needed, of different drives, each the one that writing the content makes there.
 pub record Fits (need : ℕ) (ps : List (ℕ × List ℕ)) (content : List ℕ) : Type 0 where
   pub many : length ps ≡ need
-  pub drives : All (λ d. d ≤ LAST) (on_drives ps)
+  pub drives : AllByRecursion (λ d. d ≤ LAST) (on_drives ps)
   pub distinct : Distinct (on_drives ps)
   pub bytes : Bytes content
   pub short : length content ≤ MAX

@@ -2,7 +2,7 @@
 use Rattle.std.proofs.Common.{◌≡◌, ℕ, zero, suc, ◌+◌, ◌-◌, ◌*◌, ◌/◌, ◌%◌, ◌<◌, ◌≤◌, List, [], ◌∷◌, ◌++◌, length, take, drop, replicate, sym, refl, ap, ◌∙◌, subst, ap₂, mod-lt, div-add-mod', mul-div_cancel, arith, lit<}
 use native.Mathlib.Nat.{div-div-eq-div-mul}
 use Rattle.std.proofs.lemmas.List.{length-append, length-replicate, append_assoc, replicate_more, take_at, drop_at, drop-drop, take-append-drop, length-take-le, length-drop}
-use Rattle.std.specs.List.{AllByRecursion as All}
+use Rattle.std.specs.List.{AllByRecursion}
 use Rattle.std.proofs.ByRecursion.{All-append}
 use Rattle.byte_field.specs.Byte.{IsByte}
 use Rattle.elimination.specs.Polynomial.{Bytes}
@@ -47,7 +47,7 @@ rows_of need bytes flat n rows h is long e =
 tens : 0 < 256
 tens = lit< tt
 
-all_zeros : (n : ℕ) → All IsZero (replicate n 0)
+all_zeros : (n : ℕ) → AllByRecursion IsZero (replicate n 0)
 all_zeros zero = tt
 all_zeros (suc n) = (refl, all_zeros n)
 
@@ -65,11 +65,11 @@ pub object_framed : (need : ℕ) (bytes : List ℕ) → take (length bytes) (dro
 unfolding framed
 object_framed need bytes = take_at bytes _ (length bytes) refl
 
-pub filled_framed : (need : ℕ) (bytes : List ℕ) → All IsZero (drop (4 + length bytes) (framed need bytes))
+pub filled_framed : (need : ℕ) (bytes : List ℕ) → AllByRecursion IsZero (drop (4 + length bytes) (framed need bytes))
 unfolding framed
 filled_framed need bytes =
     let n = rows_for need (length bytes) * need - (4 + length bytes) in
-    subst (All IsZero) (sym (drop_at bytes (replicate n 0) (length bytes) refl) ∙ drop-drop (length bytes) 4 (framed need bytes)) (all_zeros n)
+    subst (AllByRecursion IsZero) (sym (drop_at bytes (replicate n 0) (length bytes) refl) ∙ drop-drop (length bytes) 4 (framed need bytes)) (all_zeros n)
 
 pub framed_bytes : (need : ℕ) (bytes : List ℕ) → Bytes bytes → Bytes (framed need bytes)
 unfolding framed
@@ -77,7 +77,7 @@ framed_bytes need bytes h =
     let n = length bytes in
     (mod-lt (n / 16777216) tens, (mod-lt (n / 65536) tens, (mod-lt (n / 256) tens, (mod-lt n tens, All-append IsByte bytes _ h (zeros_bytes _)))))
 
-zeros_are : (xs : List ℕ) → All IsZero xs → xs ≡ replicate (length xs) 0
+zeros_are : (xs : List ℕ) → AllByRecursion IsZero xs → xs ≡ replicate (length xs) 0
 zeros_are [] h = refl
 zeros_are (x ∷ xs) h = ap₂ (λ y ys. y ∷ ys) h.0 (zeros_are xs h.1)
 
@@ -87,7 +87,7 @@ unfolding framed
 laid need n bytes e = ap (λ k. length_bytes k ++ (bytes ++ replicate (rows_for need k * need - (4 + k)) 0)) (sym e)
 
 -- What is zeros from the n-th byte on.
-rest_laid : (n k : ℕ) (rest : List ℕ) → All IsZero (drop n rest) → length (drop n rest) ≡ k → rest ≡ take n rest ++ replicate k 0
+rest_laid : (n k : ℕ) (rest : List ℕ) → AllByRecursion IsZero (drop n rest) → length (drop n rest) ≡ k → rest ≡ take n rest ++ replicate k 0
 rest_laid n k rest zeros count =
     sym (take-append-drop n rest) ∙ ap (λ t. take n rest ++ t) (zeros_are (drop n rest) zeros ∙ ap (λ j. replicate j 0) count)
 
@@ -117,5 +117,5 @@ framed_again need (a ∷ b ∷ c ∷ d ∷ rest) h bytes long zeros =
     let within-rest : n ≤ length rest = omega arith in
     let count : length (drop n rest) ≡ rows_for need n * need - (4 + n) = simp length-drop (omega (arith, long.1)) in
     ap₂ (λ s t. s ++ t) (sym (four_bytes a b c d bytes.0 bytes.1.0 bytes.1.1.0 bytes.1.1.1.0))
-    (rest_laid n (rows_for need n * need - (4 + n)) rest (subst (All IsZero) (sym (drop-drop n 4 flat)) zeros) count)
+    (rest_laid n (rows_for need n * need - (4 + n)) rest (subst (AllByRecursion IsZero) (sym (drop-drop n 4 flat)) zeros) count)
     ∙ laid need n (take n rest) (length-take-le n rest within-rest)

@@ -3,7 +3,7 @@ use Rattle.std.proofs.Common.{◌≡◌, ℕ, zero, suc, ◌+◌, ◌*◌, ◌/�
 use mathlib.Core.List.Memᴰ
 use mathlib.Core.List.{Memᴰ}
 use native.Mathlib.Nat.{mul-div_cancel_left, mul-mod_right}
-use Rattle.std.specs.List.{flat_map, AllByRecursion as All}
+use Rattle.std.specs.List.{flat_map, AllByRecursion}
 use Rattle.std.proofs.lemmas.List.{length-append, length-map, get_or_append_left, get_or-append_right}
 use Rattle.std.proofs.lemmas.Bool.{ne_eqb, eq-eqb, both_ways}
 use Rattle.elimination.specs.Interpolation.{Solved, reason, repeated, width_of, number}
@@ -44,7 +44,7 @@ pub distinct_down : (ds : List ℕ) → Distinct (points ds) → Distinct ds
 distinct_down [] h = tt
 distinct_down (d ∷ ds) h = (λ m. h.0 (mem_up d ds m), distinct_down ds h.1)
 
-pub points_bytes : (ds : List ℕ) → All IsDrive ds → Bytes (points ds)
+pub points_bytes : (ds : List ℕ) → AllByRecursion IsDrive ds → Bytes (points ds)
 points_bytes [] h = tt
 points_bytes (d ∷ ds) h = (omega (arith, h.0), points_bytes ds h.1)
 
@@ -53,13 +53,13 @@ abbrev pub whole : List Piece → List ℕ
 whole ps = flat_map (λ p. vec_items p.bytes) ps
 
 module _ (w : ℕ) where
-  pub length_whole : (ps : List Piece) → All (λ p. length p ≡ w) (parts ps) → length (whole ps) ≡ length ps * w
+  pub length_whole : (ps : List Piece) → AllByRecursion (λ p. length p ≡ w) (parts ps) → length (whole ps) ≡ length ps * w
   length_whole [] h = sym (zero-mul w)
   length_whole (p ∷ ps) h =
       length-append (vec_items p.bytes) (whole ps) ∙ omega (arith, h.0, length_whole ps h.1, suc-mul (length ps) w)
 
   -- Where each byte of a piece stands.
-  get_or_whole : (ps : List Piece) → All (λ p. length p ≡ w) (parts ps) → (i r : ℕ) → i < length ps → r < w → get_or (whole ps) (i * w + r) 0 ≡ get_or (get_or (parts ps) i []) r 0
+  get_or_whole : (ps : List Piece) → AllByRecursion (λ p. length p ≡ w) (parts ps) → (i r : ℕ) → i < length ps → r < w → get_or (whole ps) (i * w + r) 0 ≡ get_or (get_or (parts ps) i []) r 0
   get_or_whole [] h i r hi hr = absurd (omega arith)
   get_or_whole (p ∷ ps) h zero r hi hr =
       ap (λ k. get_or (vec_items p.bytes ++ whole ps) k 0) (omega (arith, zero-mul w))
@@ -70,7 +70,7 @@ module _ (w : ℕ) where
       ∙ get_or_whole ps h.1 i r (omega arith) hr
 
   -- Where each byte of each piece is the value of its row, the pieces are the values of the rows.
-  values_all : (need : ℕ) (flat : List ℕ) (ps : List Piece) → All (λ p. length p ≡ w) (parts ps)
+  values_all : (need : ℕ) (flat : List ℕ) (ps : List Piece) → AllByRecursion (λ p. length p ≡ w) (parts ps)
       → ((i r : ℕ) → i < length ps → r < w → get_or (get_or (parts ps) i []) r 0 ≡ value (row need flat r) (get_or (points (drives ps)) i 0))
       → parts ps ≡ map (λ d. values need w (d + 1) flat) (drives ps)
   values_all need flat [] h at = refl

@@ -2,7 +2,7 @@
 use Rattle.std.proofs.Common.{◌≡◌, ℕ, ◌+◌, ◌*◌, ◌/◌, ◌<◌, ◌≤◌, ◌⊎◌, List, [], ◌∷◌, map, length, take, drop, Ok, Err, vec_items, Result, Vec, sym, refl, ap, ◌∙◌, subst, ap₂, inl, inr, mul-div_cancel, arith, MatchResult}
 use mathlib.Core.List.Memᴰ
 use mathlib.Core.List.{Memᴰ}
-use Rattle.std.specs.List.{AllByRecursion as All}
+use Rattle.std.specs.List.{AllByRecursion}
 use Rattle.std.proofs.ByRecursion.{All-take, All-drop}
 use Rattle.std.proofs.lemmas.List.{length-map, length-take}
 use Rattle.byte_field.specs.Byte.{IsByte}
@@ -110,7 +110,7 @@ readable need object LengthTooLarge h small n = absurd (omega (arith, n, length_
 readable need object WrongRowCount h small n =
     absurd (n.1 (length_framed need object h ∙ ap (λ k. rows_for need k * need) (sym (length_in_framed need object small))))
 readable need object NotZeroFilled h small n =
-    absurd (n.1 (subst (λ k. All IsZero (drop (4 + k) (framed need object))) (sym (length_in_framed need object small)) (filled_framed need object)))
+    absurd (n.1 (subst (λ k. AllByRecursion IsZero (drop (4 + k) (framed need object))) (sym (length_in_framed need object small)) (filled_framed need object)))
 
 unread : (need : ℕ) (ps : List Piece) (object : List ℕ) (e : PieceError) → Worked need ps object → Unreadable need ps e → e ≡ NoMemory
 unread need ps object e w n =
@@ -164,20 +164,20 @@ remade need drive ps (Err e) (inr h) = record {
 }
 
 -- Pieces that were made of one object.
-made_parts : (need : ℕ) (ps : List Piece) (object : List ℕ) → All (λ p. Made need p.drive object (vec_items p.bytes)) ps → parts ps ≡ pieces_of need (drives ps) object
+made_parts : (need : ℕ) (ps : List Piece) (object : List ℕ) → AllByRecursion (λ p. Made need p.drive object (vec_items p.bytes)) ps → parts ps ≡ pieces_of need (drives ps) object
 made_parts need [] object h = refl
 made_parts need (p ∷ ps) object h = ap₂ (λ q qs. q ∷ qs) h.0.piece_is (made_parts need ps object h.1)
 
-made_drives : (need : ℕ) (ps : List Piece) (object : List ℕ) → All (λ p. Made need p.drive object (vec_items p.bytes)) ps → All IsDrive (drives ps)
+made_drives : (need : ℕ) (ps : List Piece) (object : List ℕ) → AllByRecursion (λ p. Made need p.drive object (vec_items p.bytes)) ps → AllByRecursion IsDrive (drives ps)
 made_drives need [] object h = tt
 made_drives need (p ∷ ps) object h = (h.0.drive_is, made_drives need ps object h.1)
 
-pieces_level : (need : ℕ) (ds object : List ℕ) → All (λ p. length p ≡ rows_for need (length object)) (pieces_of need ds object)
+pieces_level : (need : ℕ) (ds object : List ℕ) → AllByRecursion (λ p. length p ≡ rows_for need (length object)) (pieces_of need ds object)
 unfolding piece_of
 pieces_level need [] object = tt
 pieces_level need (d ∷ ds) object = (length_values need (rows_for need (length object)) (d + 1) (framed need object), pieces_level need ds object)
 
-first_made : (need : ℕ) (ps : List Piece) (object : List ℕ) → 0 < length ps → All (λ p. Made need p.drive object (vec_items p.bytes)) ps → IsNeed need × (length object ≤ MAX)
+first_made : (need : ℕ) (ps : List Piece) (object : List ℕ) → 0 < length ps → AllByRecursion (λ p. Made need p.drive object (vec_items p.bytes)) ps → IsNeed need × (length object ≤ MAX)
 first_made need [] object h made = absurd (omega arith)
 first_made need (p ∷ ps) object h made = (made.0.need_is, made.0.length_is)
 
@@ -190,8 +190,8 @@ made_work need ps object pos count apart bytes made =
       sound = (
         (
           ((first.0, count), made_drives need ps object made),
-          subst (λ qs. All (λ p. length p ≡ width (parts ps)) qs) (sym same)
-              (subst (λ n. All (λ p. length p ≡ n) (pieces_of need (drives ps) object)) (sym (width_is need ps object some same)) (pieces_level need (drives ps) object)),
+          subst (λ qs. AllByRecursion (λ p. length p ≡ width (parts ps)) qs) (sym same)
+              (subst (λ n. AllByRecursion (λ p. length p ≡ n) (pieces_of need (drives ps) object)) (sym (width_is need ps object some same)) (pieces_level need (drives ps) object)),
         ),
         apart,
       );

@@ -1,7 +1,7 @@
 -- Pieces that are given, the rows behind them, and what is worked out of them.
 -- Assumes nothing.
 use Rattle.std.specs.Prelude.{◌≡◌, ℕ, ◌+◌, ◌*◌, ◌<◌, ◌≤◌, List, [], ◌∷◌, map, length, drop, vec_items, slice_index}
-use Rattle.std.specs.List.{AllByRecursion as All}
+use Rattle.std.specs.List.{AllByRecursion}
 use Rattle.elimination.specs.Polynomial.{Bytes, Distinct}
 use Rattle.pieces.specs.Rows.{MAX, LAST, values, piece_of, rows_for}
 use Rattle.pieces.specs.declared.working.Piece.{Piece}
@@ -36,11 +36,11 @@ Enough need ps = IsNeed need × (length ps ≡ need)
 
 -- And each is of a drive that may be.
 abbrev pub OnDrives : ℕ → List Piece → Type 0
-OnDrives need ps = Enough need ps × All IsDrive (drives ps)
+OnDrives need ps = Enough need ps × AllByRecursion IsDrive (drives ps)
 
 -- And they have one length.
 abbrev pub OneLength : ℕ → List Piece → Type 0
-OneLength need ps = OnDrives need ps × All (λ p. length p ≡ width (parts ps)) (parts ps)
+OneLength need ps = OnDrives need ps × AllByRecursion (λ p. length p ≡ width (parts ps)) (parts ps)
 
 -- And no two are of one drive: from such pieces the rows can be worked out.
 abbrev pub Sound : ℕ → List Piece → Type 0
@@ -65,7 +65,7 @@ abbrev pub IsZero : ℕ → Type 0
 IsZero b = b ≡ 0
 
 abbrev pub Filled : List ℕ → Type 0
-Filled flat = All IsZero (drop (4 + length_in flat) flat)
+Filled flat = AllByRecursion IsZero (drop (4 + length_in flat) flat)
 
 -- The object is worked out of the pieces: they are its pieces on their drives.
 pub record Worked (need : ℕ) (ps : List Piece) (object : List ℕ) : Type 0 where

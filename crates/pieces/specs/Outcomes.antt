@@ -2,7 +2,7 @@
 -- Assumes nothing.
 use Rattle.std.specs.Prelude.{◌≡◌, ℕ, ◌*◌, ◌<◌, ◌≤◌, ◌⊎◌, List, length, take, drop, vec_items, Result, Vec, MatchResult}
 use mathlib.Core.List.{Memᴰ}
-use Rattle.std.specs.List.{AllByRecursion as All}
+use Rattle.std.specs.List.{AllByRecursion}
 use Rattle.std.specs.declared.alloc.Global.{Global}
 use Rattle.elimination.specs.Polynomial.{Bytes, Distinct}
 use Rattle.pieces.specs.Given.{IsDrive, Worked, Long, Filled, length_in, drives}
@@ -36,7 +36,7 @@ pub record Remade (need drive : ℕ) (ps : List Piece) (r : Result (Vec ℕ Glob
 abbrev pub MadeWork : Type 0
 MadeWork =
     (need : ℕ) (ps : List Piece) (object : List ℕ) → 0 < need → length ps ≡ need → Distinct (drives ps) → Bytes object →
-    All (λ p. Made need p.drive object (vec_items p.bytes)) ps → Worked need ps object
+    AllByRecursion (λ p. Made need p.drive object (vec_items p.bytes)) ps → Worked need ps object
 
 -- Only one object has these pieces.
 abbrev pub OnlyOne : Type 0

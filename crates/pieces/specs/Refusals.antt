@@ -1,7 +1,7 @@
 -- When a piece is not made and an object not worked out, by each case of the error.
 -- Assumes nothing.
 use Rattle.std.specs.Prelude.{◌≡◌, ℕ, ◌*◌, ◌<◌, ◌≤◌, List, length, ◌≢◌}
-use Rattle.std.specs.List.{AllByRecursion as All}
+use Rattle.std.specs.List.{AllByRecursion}
 use Rattle.elimination.specs.Polynomial.{Distinct}
 use Rattle.pieces.specs.Given.{IsNeed, IsDrive, drives, parts, width, Enough, OnDrives, OneLength, Sound, RowsOf, length_in, Long, Filled}
 use Rattle.pieces.specs.Rows.{MAX, piece_of, rows_for}
@@ -65,11 +65,11 @@ Unreadable need ps e = Sound need ps × (flat : List ℕ) × RowsOf need ps flat
 -- When an object is not worked out. Each case says that those with a lower number don't hold; memory can be wanting before the rows are there.
 abbrev pub NotWorked : (need : ℕ) → List Piece → PieceError → Type 0
 NotWorked need ps NeedOutOfRange = IsNeed need → ⊥
-NotWorked need ps DriveOutOfRange = Enough need ps × (All IsDrive (drives ps) → ⊥)
+NotWorked need ps DriveOutOfRange = Enough need ps × (AllByRecursion IsDrive (drives ps) → ⊥)
 NotWorked need ps ObjectTooLong = ⊥
 NotWorked need ps TooFewPieces = IsNeed need × (length ps < need)
 NotWorked need ps TooManyPieces = IsNeed need × (need < length ps)
-NotWorked need ps DifferentLengths = OnDrives need ps × (All (λ p. length p ≡ width (parts ps)) (parts ps) → ⊥)
+NotWorked need ps DifferentLengths = OnDrives need ps × (AllByRecursion (λ p. length p ≡ width (parts ps)) (parts ps) → ⊥)
 NotWorked need ps SameDrive = OneLength need ps × (Distinct (drives ps) → ⊥)
 NotWorked need ps LengthTooLarge = Unreadable need ps LengthTooLarge
 NotWorked need ps WrongRowCount = Unreadable need ps WrongRowCount

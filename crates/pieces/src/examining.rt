@@ -2,7 +2,7 @@
 ghost use Rattle.std.specs.Prelude.{◌≡◌, length, MatchBool, MatchResult};
 ghost use Rattle.pieces.specs.Given.{IsDrive, OneLength, drives, parts};
 ghost use Rattle.pieces.specs.Refusals.{NotWorked};
-ghost use Rattle.std.specs.List.{AllByRecursion as All};
+ghost use Rattle.std.specs.List.{AllByRecursion};
 
 use crate::errors::PieceError;
 use crate::making::LAST;
@@ -32,7 +32,7 @@ pub fn examine(need: u8, pieces: &[Piece]) -> Result<(), PieceError>
 
 // Has each piece's drive a number that a drive may have.
 fn on_drives(pieces: &[Piece]) -> bool
-    ensures { MatchBool result (All IsDrive (drives pieces.now)) (All IsDrive (drives pieces.now) → ⊥) }
+    ensures { MatchBool result (AllByRecursion IsDrive (drives pieces.now)) (AllByRecursion IsDrive (drives pieces.now) → ⊥) }
 {
     for piece in pieces {
         if piece.drive > LAST {
@@ -44,7 +44,7 @@ fn on_drives(pieces: &[Piece]) -> bool
 
 // Has each piece that length.
 fn of_length(pieces: &[Piece], width: usize) -> bool
-    ensures { MatchBool result (All (λ p. length p ≡ width) (parts pieces.now)) (All (λ p. length p ≡ width) (parts pieces.now) → ⊥) }
+    ensures { MatchBool result (AllByRecursion (λ p. length p ≡ width) (parts pieces.now)) (AllByRecursion (λ p. length p ≡ width) (parts pieces.now) → ⊥) }
 {
     for piece in pieces {
         if piece.bytes.len() != width {

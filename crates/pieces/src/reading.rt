@@ -3,7 +3,7 @@ ghost use Rattle.std.specs.Prelude.{◌≡◌, ◌<◌, ◌≤◌, MatchBool, Ma
 ghost use Rattle.pieces.specs.Given.{IsZero, length_in};
 ghost use Rattle.pieces.specs.Outcomes.{Read};
 ghost use Rattle.pieces.specs.Refusals.{NotRead};
-ghost use Rattle.std.specs.List.{AllByRecursion as All};
+ghost use Rattle.std.specs.List.{AllByRecursion};
 
 use crate::errors::PieceError;
 use crate::making::{MAX, framed_size};
@@ -47,7 +47,7 @@ fn byte_at(flat: &[u8], place: usize) -> usize
 }
 
 fn all_zeros(bytes: &[u8]) -> bool
-    ensures { MatchBool result (All IsZero bytes.now) (All IsZero bytes.now → ⊥) }
+    ensures { MatchBool result (AllByRecursion IsZero bytes.now) (AllByRecursion IsZero bytes.now → ⊥) }
 {
     for b in bytes {
         if *b != 0 {

@@ -3,7 +3,7 @@ ghost use Rattle.std.specs.Prelude.{◌≡◌, ◌+◌, map, IfOk, MatchResult};
 ghost use Rattle.elimination.specs.Polynomial.{Distinct};
 ghost use Rattle.pieces.specs.Given.{IsDrive, OneLength, RowsOf, drives};
 ghost use Rattle.pieces.specs.Refusals.{NotWorked};
-ghost use Rattle.std.specs.List.{flat_map, AllByRecursion as All};
+ghost use Rattle.std.specs.List.{flat_map, AllByRecursion};
 
 use crate::errors::PieceError;
 use crate::working::Piece;
@@ -22,7 +22,7 @@ pub fn solve(heap: Global, need: usize, pieces: &[Piece]) -> Result<Vec<u8>, Pie
 
 // The points of the pieces' drives.
 fn points_of(heap: Global, pieces: &[Piece]) -> Result<Vec<u8>, AllocError>
-    requires { All IsDrive (drives pieces.now) }
+    requires { AllByRecursion IsDrive (drives pieces.now) }
     ensures { IfOk result (λ v. v.items ≡ map (λ p. p.drive + 1) pieces.now) }
 {
     let mut points = Vec::with_capacity(heap, pieces.len())?;

@@ -1,7 +1,7 @@
 -- The real codec and format keep the laws.
 use Rattle.std.proofs.Common.{◌≡◌, ℕ, ◌+◌, ◌-◌, ◌*◌, ◌/◌, ◌<◌, ◌≤◌, List, [], ◌∷◌, map, length, drop, Some, sym, refl, ap, ◌∙◌, subst, div-lt_iff_lt-mul, mul-le-mul_left, arith}
 use mathlib.Core.List.{Memᴰ}
-use Rattle.std.specs.List.{AllByRecursion as All}
+use Rattle.std.specs.List.{AllByRecursion}
 use Rattle.std.proofs.lemmas.List.{length-map}
 use Rattle.elimination.specs.Polynomial.{Distinct as Apart}
 use Rattle.pieces.specs.Rows.{LAST, rows_for, framed, piece_of}
@@ -30,7 +30,7 @@ piece_short need d c h l =
     omega arith
 
 -- The same words of the two libraries.
-all_from : {P : ℕ → Type 0} (xs : List ℕ) → ((x : ℕ) → Memᴰ x xs → P x) → All P xs
+all_from : {P : ℕ → Type 0} (xs : List ℕ) → ((x : ℕ) → Memᴰ x xs → P x) → AllByRecursion P xs
 all_from [] h = tt
 all_from (x ∷ xs) h = (h x (Memᴰ.head refl), all_from xs (λ y m. h y (Memᴰ.tail m)))
 
@@ -63,7 +63,7 @@ real_laws n need o f k w =
         w.works (pieces_on (codec_of need o f) c ds) c
         (record {
           many = length-map ds (λ d. (d, piece_of need d c)) ∙ many;
-          drives = subst (All (λ d. d ≤ LAST)) (sym (on_drives_lem need o f c ds)) (all_from ds (λ d m. let z = below d m in let q = k.most in omega arith));
+          drives = subst (AllByRecursion (λ d. d ≤ LAST)) (sym (on_drives_lem need o f c ds)) (all_from ds (λ d m. let z = below d m in let q = k.most in omega arith));
           distinct = subst Apart (sym (on_drives_lem need o f c ds)) (apart_from ds apart);
           bytes = all_from c fits.bytes;
           short = fits.short;

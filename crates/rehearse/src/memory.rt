@@ -104,7 +104,7 @@ impl Memory {
                 versions.push(version)?;
             }
         }
-        versions.sort();
+        versions.sort_unstable();
         Ok(versions)
     }
 

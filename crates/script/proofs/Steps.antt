@@ -2,7 +2,7 @@
 use Rattle.std.proofs.Common.{◌≡◌, ℕ, ◌+◌, ◌-◌, ◌*◌, ◌/◌, ◌%◌, ◌^◌, ◌<◌, ◌≤◌, min, true, false, cond, ◌&&◌, leb, List, [], ◌∷◌, ◌++◌, length, get_or, drop, Some, None, Ok, Err, Result, sym, refl, ap, ◌∙◌, ⊎_elim, append_assoc, arith}
 use Rattle.std.proofs.lemmas.List.{at_drop_more, at_drop_all}
 use Rattle.std.proofs.lemmas.Bool.{cases_lt, lt-ltb, le-ltb, le-leb, lt-leb}
-use Rattle.std.specs.List.{AllByRecursion as All}
+use Rattle.std.specs.List.{AllByRecursion}
 use Rattle.script.specs.declared.error.LineError.{LineError}
 use Rattle.script.specs.Digits.{decimal, nibble, byte_of, before, from_hex, symbol, to_hex}
 
@@ -55,7 +55,7 @@ digit_back x h =
     (cases_lt x 10)
 
 -- what was written in hexadecimal reads as what it was written of
-pub reads_back : (xs : List ℕ) → All (λ b. b < 256) xs → from_hex (to_hex xs) ≡ Ok xs
+pub reads_back : (xs : List ℕ) → AllByRecursion (λ b. b < 256) xs → from_hex (to_hex xs) ≡ Ok xs
 reads_back [] h = refl
 reads_back (x ∷ xs) (h, hs) =
     rw (digit_back (x / 16) (omega arith), digit_back (x % 16) (omega arith), reads_back xs hs) (ap (λ b. Ok (b ∷ xs)) (omega arith))

@@ -3,7 +3,7 @@ use Rattle.std.proofs.Common.{◌≡◌, ℕ, zero, suc, ◌+◌, ◌*◌, ◌^�
 use Rattle.std.proofs.ByRecursion.{All-get_or}
 use Rattle.std.proofs.lemmas.List.{append_assoc, append-nil, length-append, take-append-drop, take_at, take_more, take_all, drop_more, drop_all, length-take-le}
 use Rattle.std.proofs.lemmas.Bool.{eq-eqb, and_from, cond-true}
-use Rattle.std.specs.List.{AllByRecursion as All}
+use Rattle.std.specs.List.{AllByRecursion}
 use Rattle.slots.proofs.Adding.{adler_lt}
 use Rattle.slots.proofs.Numbers.{number_at_whole}
 use Rattle.slots.specs.Adler.{adler}
@@ -58,7 +58,7 @@ spelled_split xs k h =
     sym (ap spelled (take-append-drop k xs)) ∙ spelled_append (take k xs) (drop k xs) ∙ ap (λ l. spelled (take k xs) ++ spelled l) (drop_more xs k 0 h)
 
 -- Each number is read at its place.
-pub word_read : (xs ys : List ℕ) (k : ℕ) → k < length xs → All (λ x. x < 2 ^ 64) xs → number_at (spelled xs ++ ys) (k * 8) 8 ≡ get_or xs k 0
+pub word_read : (xs ys : List ℕ) (k : ℕ) → k < length xs → AllByRecursion (λ x. x < 2 ^ 64) xs → number_at (spelled xs ++ ys) (k * 8) 8 ≡ get_or xs k 0
 word_read xs ys k h small =
     let front = spelled (take k xs) in
     let word = bytes_of 8 (get_or xs k 0) in
@@ -68,7 +68,7 @@ word_read xs ys k h small =
     let long : length front ≡ k * 8 = length_spelled (take k xs) ∙ ap (λ n. n * 8) (length-take-le k xs (omega arith)) in
     ap (λ l. number_at l (k * 8) 8) whole ∙ number_at_whole 8 (get_or xs k 0) (k * 8) front (back ++ ys) long (All-get_or (λ x. x < 2 ^ 64) xs k 0 h small)
 
-pub bars_read : (number : ℕ) (bars ys : List ℕ) (k : ℕ) → k ≤ length bars → All (λ x. x < 2 ^ 64) (number ∷ bars) → bars_in k (page_of number bars ++ ys) ≡ take k bars
+pub bars_read : (number : ℕ) (bars ys : List ℕ) (k : ℕ) → k ≤ length bars → AllByRecursion (λ x. x < 2 ^ 64) (number ∷ bars) → bars_in k (page_of number bars ++ ys) ≡ take k bars
 unfolding bars_in
 bars_read number bars ys zero h small = refl
 bars_read number bars ys (suc k) h small =
@@ -88,7 +88,7 @@ file_reads number bars n small many =
     let page = spelled all in
     let tail = bytes_of 4 (adler page) in
     let bytes = page ++ tail in
-    let fits : All (λ x. x < 2 ^ 64) all = (n, small) in
+    let fits : AllByRecursion (λ x. x < 2 ^ 64) all = (n, small) in
     let long : length page ≡ 2056 = length_spelled all ∙ ap (λ k. suc k * 8) many in
     let whole : length bytes ≡ 2060 = length-append page tail ∙ omega arith in
     let sum : number_at bytes 2056 4 ≡ adler page = number_at_whole 4 (adler page) 2056 page [] long (adler_lt page) in

@@ -1,7 +1,7 @@
 -- The keeper's file: the number that is above every number used, a bar for each object, and Adler's sum of that, the highest byte of each number first.
 -- Assumes nothing.
 use Rattle.std.specs.Prelude.{◌≡◌, ℕ, zero, suc, ◌+◌, ◌*◌, ◌^◌, ◌<◌, Bool, cond, ◌&&◌, List, [], ◌∷◌, ◌++◌, length, take, Some, None, Option, ◌==◌}
-use Rattle.std.specs.List.{AllByRecursion as All}
+use Rattle.std.specs.List.{AllByRecursion}
 use Rattle.drives.specs.Place.{objects}
 use Rattle.slots.specs.Adler.{adler}
 use Rattle.slots.specs.Layout.{bytes_of, number_at}
@@ -41,4 +41,4 @@ read_file bytes = cond (is_file bytes) (Some (number_at bytes 0 8, bars_in objec
 -- What is read of a written file is what was written.
 abbrev pub FileReads : Type 0
 FileReads =
-    (number : ℕ) (bars : List ℕ) → number < 2 ^ 64 → All (λ b. b < 2 ^ 64) bars → length bars ≡ objects → read_file (file_of number bars) ≡ Some (number, bars)
+    (number : ℕ) (bars : List ℕ) → number < 2 ^ 64 → AllByRecursion (λ b. b < 2 ^ 64) bars → length bars ≡ objects → read_file (file_of number bars) ≡ Some (number, bars)

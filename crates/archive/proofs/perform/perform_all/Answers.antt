@@ -9,7 +9,7 @@ pub loop-effect-preserved : goal.loop-effect-preserved
 loop-effect-preserved g c = λ t rest.
     c.loop-effect.invariant t
     (leads_more g.D.Disks.does (λ e. deed_of (bars_of c.args.keeper.now) c.args.object (act_of e)) c.args.effects.now c.loop-effect.effect-index
-    c.effect-item.result c.loop-effect.disks c.perform-one.new.disks t c.loop-effect-test.true c.effect-item.is (c.perform-one.ensures (search rules)) rest)
+    c.effect-item.result c.loop-effect.disks c.perform_one.new.disks t c.loop-effect-test.true c.effect-item.is (c.perform_one.ensures (search rules)) rest)
 
 pub returns : goal.returns
 returns g c = λ _.

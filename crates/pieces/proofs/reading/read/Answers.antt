@@ -1,5 +1,5 @@
 use Rattle.std.proofs.Common.{◌≡◌, ℕ, ◌+◌, ◌-◌, ◌*◌, ◌≤◌, List, length, take, drop, sym, ap, ◌∙◌, subst, arith}
-use Rattle.std.specs.List.{AllByRecursion as All}
+use Rattle.std.specs.List.{AllByRecursion}
 use Rattle.std.proofs.lemmas.List.{take_rest}
 use Rattle.std.proofs.lemmas.Result.{err_from_is_err_and}
 use Rattle.pieces.specs.Given.{IsZero, Long, length_in}
@@ -22,7 +22,7 @@ pub returns-then-not-all_zeros : goal.returns-then-not-all_zeros
 returns-then-not-all_zeros c =
     let e = c.length_in-length.ensures in (
       long_is c.args.need c.length_in-length.result c.framed_size.result c.args.flat.now e (omega arith) c.framed_size.ensures.is c.if-flat-framed_size.false,
-      λ z. c.if-not-all_zeros.ensures (subst (All IsZero) (sym (rest_is c.length_in-length.result c.args.flat.now e)) z),
+      λ z. c.if-not-all_zeros.ensures (subst (AllByRecursion IsZero) (sym (rest_is c.length_in-length.result c.args.flat.now e)) z),
     )
 
 pub returns-in_err-from_slice : goal.returns-in_err-from_slice
@@ -31,7 +31,7 @@ returns-in_err-from_slice c =
     let p = err_from_is_err_and c.from_residual.result c.from_residual.ensures.1 in
     rw (p.1, p.2) (
       long_is c.args.need c.length_in-length.result c.framed_size.result c.args.flat.now e (omega arith) c.framed_size.ensures.is c.if-flat-framed_size.false,
-      subst (All IsZero) (rest_is c.length_in-length.result c.args.flat.now e) c.if-not-all_zeros.ensures,
+      subst (AllByRecursion IsZero) (rest_is c.length_in-length.result c.args.flat.now e) c.if-not-all_zeros.ensures,
     )
 
 pub returns : goal.returns
@@ -39,6 +39,6 @@ returns c =
     let e = c.length_in-length.ensures in
     record {
       long = long_is c.args.need c.length_in-length.result c.framed_size.result c.args.flat.now e (omega arith) c.framed_size.ensures.is c.if-flat-framed_size.false;
-      filled = subst (All IsZero) (rest_is c.length_in-length.result c.args.flat.now e) c.if-not-all_zeros.ensures;
+      filled = subst (AllByRecursion IsZero) (rest_is c.length_in-length.result c.args.flat.now e) c.if-not-all_zeros.ensures;
       object_is = c.in_ok-from_slice.ensures.items ∙ ap (λ k. take k (drop 4 c.args.flat.now)) (omega arith);
     }
