@@ -1,7 +1,6 @@
 -- What reading, mending and settling come to, once it is known what the pieces work out to.
 -- Assumes nothing.
 use Rattle.std.proofs.Common.{◌≡◌, ℕ, List, [], ◌∷◌, Some, None, Option, refl, ap, ◌∙◌}
-use Rattle.std.specs.List.{AllByRecursion}
 use Rattle.keeper.specs.Object.{unsure, counts, Reading, Reply, State, has}
 use Rattle.keeper.specs.Steps.{Found, better, highest, settling_on, read_as, remake}
 use Rattle.recovery.specs.Disk.{Site, readings_of}

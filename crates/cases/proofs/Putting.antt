@@ -1,13 +1,13 @@
 -- The rows of the table about objects that are put, drives that come back and a byte that changes.
 -- Assumes nothing.
-use Rattle.std.proofs.Common.{◌≡◌, ℕ, List, [], ◌∷◌, ◌++◌, set, Some, ap, ◌∙◌, lit≤, le→leb}
+use Rattle.std.proofs.Common.{◌≡◌, ℕ, [], ◌∷◌, ◌++◌, set, Some, ap, ◌∙◌, lit≤, le→leb}
 use Rattle.pieces.specs.Rows.{piece_of}
 use Rattle.slots.specs.Layout.{record_of}
 use Rattle.keeper.specs.Real.{WorkOut, WorksOut}
 use Rattle.keeper.specs.Object.{has, mended}
 use Rattle.recovery.specs.Disk.{OnceBegun, how_many}
 use Rattle.recovery.specs.World.{World, read, mend, weak}
-use Rattle.recovery.specs.Events.{Event, step, goes_out}
+use Rattle.recovery.specs.Events.{step, goes_out}
 use Rattle.recovery.specs.Example.{play}
 use Rattle.cases.specs.Store.{site, zeros, slots_with, at_first}
 use Rattle.cases.specs.Table.{happens, may_not, answer, weak_drives, Holds, object, put_on_two, back_empty, put, one_byte_changed}

@@ -3,11 +3,10 @@
 use Rattle.std.proofs.Common.{◌≡◌, ℕ, ◌<◌, ◌≤◌, T, ltb, leb, List, [], ◌∷◌, length, Some, sym, refl, subst, inl, inr, arith, lit<, lit≤, ltb→lt, leb→le}
 use mathlib.Core.List.Memᴰ
 use mathlib.Core.List.{Memᴰ}
-use Rattle.std.specs.List.{AllByRecursion}
 use Rattle.byte_field.specs.Byte.{IsByte}
 use Rattle.elimination.specs.Polynomial.{Bytes}
 use Rattle.pieces.specs.Rows.{MAX, LAST, piece_of}
-use Rattle.keeper.specs.Real.{Fits, WorkOut, WorksOut}
+use Rattle.keeper.specs.Real.{WorkOut, WorksOut}
 use Rattle.cases.specs.Table.{object, other}
 
 -- A content that an object may have.
