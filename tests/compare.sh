@@ -6,10 +6,10 @@
 set -u
 cd "$(dirname "$0")/.." || exit 1
 
-# The switch: 1 compares target/bin/rehearse with the second keeper, and a rehearse that isn't there is
+# The switch: 1 compares crates/rehearse/out/rehearse with the second keeper, and a rehearse that isn't there is
 # a failure; 0 leaves that out.
 compare_rehearse=${COMPARE_REHEARSE:-1}
-rehearse=${REHEARSE:-target/bin/rehearse}
+rehearse=${REHEARSE:-crates/rehearse/out/rehearse}
 # The scripts that are played: always the same, and for at most so many seconds.
 seeds=${SEEDS:-1-4000}
 patience=${PATIENCE:-110}

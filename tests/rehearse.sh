@@ -1,8 +1,8 @@
 #!/usr/bin/env bash
-# What the program `rehearse` does with its arguments and its lines. Takes target/bin/rehearse as `rt check` or `rt ci` made it.
+# What the program `rehearse` does with its arguments and its lines. Takes crates/rehearse/out/rehearse as `rt ci` or `rt run` made it.
 set -u
 cd "$(dirname "$0")/.." || exit 1
-program=target/bin/rehearse
+program=crates/rehearse/out/rehearse
 passed=0
 failed=0
 work=$(mktemp -d)

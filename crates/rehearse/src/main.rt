@@ -11,11 +11,20 @@ use rehearsal::Rehearsal;
 use script::Command;
 use setup::{Setup, SetupError, set_up};
 use std::io::{BufRead, BufReader};
+use std::process::ExitCode;
 use std::{env, io};
 
-fn main(rt: HostRuntime) -> io::Result<()> {
-    match arguments(&rt)? {
-        Ok(setup) => play(&rt, setup),
+// What went wrong is told where it is found, so nothing is printed here.
+fn main(rt: HostRuntime) -> ExitCode {
+    match run(&rt) {
+        Ok(()) => ExitCode::SUCCESS,
+        Err(_) => ExitCode::FAILURE,
+    }
+}
+
+fn run(rt: &HostRuntime) -> io::Result<()> {
+    match arguments(rt)? {
+        Ok(setup) => play(rt, setup),
         Err(e) => {
             eprintln!(rt; "rehearse: {e}")?;
             Err(io::Error::from(io::ErrorKind::InvalidInput))
