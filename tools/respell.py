@@ -7,7 +7,7 @@ What is renamed, in crates/*/specs, crates/*/proofs and the clauses of crates/*/
 - each word in lower camel case (`placeFor` is `place_for`); types, facts and variants keep their capital;
 - each definition, lemma, field and constructor of the repository's own whose words are joined by dashes (`at-one-reads` is `at_one_reads`), and
   each name that an import gives with `as`. Names that Rattle makes (`loop-i-preserved`, `in-Ok-found`) keep their dashes.
-Functions of src/, strings, comments and modules keep their names. --list prints the names, and writes nothing.
+Functions, strings and comments of src/ and all modules keep their names. --list prints the names, and writes nothing.
 """
 import os
 import re
