@@ -14,7 +14,7 @@ import re
 import sys
 
 TOKEN = re.compile(r"(?<![\w'\-])[A-Za-z][\w']*(?:-[\w'+∷*]+)*")
-DECLARED = re.compile(r"^(\s*)((?:abbrev |unfoldable |pub |record |data )*)([A-Za-z][^\s:(){}.;,]*)((?: |$).*)$")
+DECLARED = re.compile(r"^(\s*)(?:(?:abbrev|unfoldable|pub|record|data) )*([A-Za-z][^\s:(){}.;,]*)((?: |$).*)$")
 FIELD = re.compile(r"^\s+(?:pub )?([a-z][^\s:(){}.;,]*) :")
 MADE = re.compile(r"(invariant|decreases|loop)-")
 ALIAS = re.compile(r"\bas ([A-Za-z][\w'-]*)")
@@ -38,9 +38,9 @@ def files(*kinds):
 
 
 def code(line, mark):
-    """A line without what stands after a comment's mark, and that rest."""
+    """A line without the comment at its end, and that comment."""
     at = line.find(mark)
-    if at < 0 or (mark == "--" and at > 0 and line[at - 1] not in " \t"):
+    if at < 0 or (at > 0 and line[at - 1] not in " \t"):
         return line, ""
     return line[:at], line[at:]
 
@@ -60,8 +60,8 @@ def own_names():
                     found.update(ALIAS.findall(line))
                     continue
                 m = DECLARED.match(line)
-                if m and not m.group(1) and (":" in m.group(4) or not m.group(4)) and not is_answer(path, m.group(4)):
-                    found.add(m.group(3))
+                if m and not m.group(1) and (":" in m.group(3) or not m.group(3)) and not is_answer(path, m.group(3)):
+                    found.add(m.group(2))
                 m = FIELD.match(line)
                 if m:
                     found.add(m.group(1))
@@ -143,7 +143,8 @@ class Speller:
             if depth == 0 and not re.match(r"\s*(ghost |requires|ensures|also_)", line):
                 out.append(line)
                 continue
-            out.append(self.turn(line))
+            clause, comment = code(line, "//")
+            out.append(self.turn(clause) + comment)
             if not line.startswith("ghost use "):
                 depth += line.count("{") - line.count("}")
         return "\n".join(out)
@@ -151,6 +152,9 @@ class Speller:
 
 def main(argv):
     speller, changes = Speller(), []
+    if not any(hump(name) != name for name in speller.own):
+        print("respell: every name is in today's spelling already")
+        return 1
     for path in files("specs", "proofs", "src"):
         with open(path, encoding="utf-8") as f:
             text = f.read()
