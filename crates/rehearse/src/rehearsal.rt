@@ -136,3 +136,35 @@ fn add_versions(
     }
     Ok(())
 }
+
+#[cfg(test)]
+mod tests {
+    use super::*;
+    use archive::Disks;
+    use std::test::Fail;
+
+    // No contract says what lies on the drives. Here there is no file, and the last place of the last drive holds a piece of the last object.
+    #[test]
+    fn a_lost_file_is_no_first_start(rt: HostRuntime) -> Result<(), Fail> {
+        let heap = rt.alloc();
+        let mut disks = Memory::empty(heap, 3)?;
+        let mut drives = Drives::new(3).ok_or("three drives")?;
+        assert!(rt;
+            start(heap, &mut disks, drives, 2).is_ok(),
+            "nothing on the drives"
+        );
+        let record = slots::encode(heap, 255, 2, 1, &[1, 2])?.ok_or("a short piece")?;
+        assert!(rt;
+            disks.write(255, 2, 3, record.as_slice()).is_ok(),
+            "the last place"
+        );
+        let refused = matches!(&start(heap, &mut disks, drives, 2), Err(Fault::FileFailed));
+        assert!(rt; refused, "the file was lost");
+        assert!(rt; drives.take_out(2), "there are three");
+        assert!(rt;
+            start(heap, &mut disks, drives, 2).is_ok(),
+            "a drive that is out is not looked through"
+        );
+        Ok(())
+    }
+}

@@ -27,7 +27,7 @@ fn known_by(version: Option<u64>) -> Known
 }
 
 // The same of each object.
-pub(crate) fn all_known(heap: Global, version: Option<u64>) -> Result<Vec<Known>, AllocError>
+fn all_known(heap: Global, version: Option<u64>) -> Result<Vec<Known>, AllocError>
     ensures { IfOk result (λ v. (map known_of v.items ≡ replicate 256 (knowing_of version)) × (vec_len v ≡ 256)) }
 {
     let mut known = Vec::with_capacity(heap, OBJECTS)?;
@@ -38,7 +38,7 @@ pub(crate) fn all_known(heap: Global, version: Option<u64>) -> Result<Vec<Known>
 }
 
 // For each object the bar 0.
-pub(crate) fn no_bars(heap: Global) -> Result<Vec<u64>, AllocError>
+fn no_bars(heap: Global) -> Result<Vec<u64>, AllocError>
     ensures { IfOk result (λ v. (v.items ≡ replicate 256 0) × (vec_len v ≡ 256)) }
 {
     let mut bars = Vec::with_capacity(heap, OBJECTS)?;

@@ -1,9 +1,10 @@
 // The keeper of all objects, as it starts: with its file, or for the first time.
+ghost use Rattle.std.specs.Prelude.{◌≡◌};
 ghost use Rattle.std.specs.Option.{option_map};
 ghost use Rattle.keeper.specs.Object.{counts};
 ghost use Rattle.table.specs.Table.{first_start, starting, known_at, Starts};
 
-use crate::objects::{all_known, may_need, no_bars};
+use crate::objects::may_need;
 use crate::table::Keeper;
 use drives::Drives;
 use keeper::refusal::Refusal;
@@ -36,19 +37,19 @@ impl Keeper {
         if holds {
             return Err(Refusal::BadFile);
         }
-        let Ok(known) = all_known(heap, Some(0)) else {
-            return Err(Refusal::NoMemory);
-        };
-        let Ok(bars) = no_bars(heap) else {
-            return Err(Refusal::NoMemory);
-        };
-        Ok(Keeper {
-            need,
-            drives,
-            known,
-            bars,
-            next: 1,
-            number: 1,
-        })
+        match Keeper::first(heap, drives.count(), need) {
+            Ok(Some(keeper)) => Ok(keeper.on(drives)),
+            Ok(None) => Err(Refusal::NoSuch),
+            Err(_) => Err(Refusal::NoMemory),
+        }
+    }
+
+    // The same keeper on these drives.
+    fn on(self, drives: Drives) -> Keeper
+        ensures { result ≡ record self { drives = drives } }
+    {
+        let mut keeper = self;
+        keeper.drives = drives;
+        keeper
     }
 }
