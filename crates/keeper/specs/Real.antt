@@ -1,9 +1,8 @@
 -- The codec that the code works by: records as they lie in slots, pieces as values of polynomials, and the one content that has given pieces.
 -- Assumes nothing.
-use Rattle.std.specs.Prelude.{◌≡◌, ℕ, ◌≤◌, List, map, length, IfSome, Some, None, vec_items, vec_len, Option, Vec}
+use Rattle.std.specs.Prelude.{◌≡◌, ℕ, ◌≤◌, List, map, length, Some, None, vec_items, Option}
 use Rattle.std.specs.Option.{option_map}
 use Rattle.std.specs.List.{AllByRecursion}
-use Rattle.std.specs.declared.alloc.Global.{Global}
 use Rattle.elimination.specs.Polynomial.{Bytes, Distinct}
 use Rattle.pieces.specs.Rows.{MAX, LAST, piece_of}
 use Rattle.pieces.specs.declared.working.Piece.{Piece}
@@ -11,7 +10,8 @@ use Rattle.slots.specs.Layout.{record_of}
 use Rattle.keeper.specs.declared.object.Step.{Step}
 use Rattle.keeper.specs.Object.{Codec, Setup, State, Outcome, Reading}
 use Rattle.keeper.specs.Readings.{content_of}
-use Rattle.keeper.specs.Shown.{Gives}
+use Rattle.keeper.specs.Shown.{content_of as bytes_in, outcome_of, Comes}
+use Rattle.keeper.specs.declared.writing.Content.{Content}
 
 -- The drives that pieces are of, and the pieces.
 abbrev pub on_drives : List (ℕ × List ℕ) → List ℕ
@@ -47,10 +47,12 @@ abbrev pub codec_of : (need o : ℕ) → WorkOut → Codec
 codec_of need o work_out = record { encode = λ d v p. record_of o d v p; piece_of = λ d c. piece_of need d c; work_out = work_out }
 
 -- What was worked out of a version's pieces, in words of the code.
-pub record Worked (need v : ℕ) (rs : List Reading) (result : Option (Vec ℕ Global)) : Type 0 where
-  pub content : (o : ℕ) (f : WorkOut) (u : Setup) → WorksOut need f → u.need ≡ need → content_of (codec_of need o f) u v rs ≡ option_map vec_items result
-  pub short : IfSome result (λ bytes. vec_len bytes ≤ 65536)
+pub record Worked (need v : ℕ) (rs : List Reading) (result : Option Content) : Type 0 where
+  pub content : (o : ℕ) (f : WorkOut) (u : Setup) → WorksOut need f → u.need ≡ need → content_of (codec_of need o f) u v rs ≡ option_map bytes_in result
 
--- A step is the planned one, by the codec of its object.
+-- What comes of a step is what is wanted of it, by the codec of its object.
+abbrev pub ComesBy : (need o : ℕ) → Outcome → State → (Codec → Outcome) → Type 0
+ComesBy need o outcome before wanted = (f : WorkOut) → WorksOut need f → Comes outcome before (wanted (codec_of need o f))
+
 abbrev pub GivesBy : (need o : ℕ) → Step → State → (Codec → Outcome) → Type 0
-GivesBy need o step before planned = (f : WorkOut) → WorksOut need f → Gives step before (planned (codec_of need o f))
+GivesBy need o step before wanted = ComesBy need o (outcome_of step) before wanted

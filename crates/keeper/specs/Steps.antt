@@ -1,7 +1,7 @@
 -- The keeper's steps on one object: from the state, the pieces that are read and the step's words to the answer, the acts in their order, and the new state.
 -- Each step is a chain of tests in the order of the refusals' numbers, so the lowest number wins, and a refusal changes nothing.
 -- Assumes nothing.
-use Rattle.std.specs.Prelude.{ℕ, ◌+◌, ◌^◌, Bool, true, cond, not, ◌&&◌, ◌||◌, List, [], ◌∷◌, ◌++◌, length, Some, None, filter, Option, ◌==◌, nat_le, nat_lt}
+use Rattle.std.specs.Prelude.{ℕ, ◌+◌, ◌^◌, Bool, true, cond, not, ◌&&◌, ◌||◌, List, [], ◌∷◌, ◌++◌, length, Some, None, Ok, Err, filter, Option, Result, ◌==◌, nat_le, nat_lt}
 use Rattle.keeper.specs.declared.refusal.Refusal.{Refusal}
 use Rattle.keeper.specs.declared.refusal.Refusal.TheVariants.{NoSuch, TooLong, Unsure, BeingWritten, NotBeingWritten, NotUnsure, DriveOut, NoPlace, NotEverywhere, TooFewIn, TooFewPieces, CountsNone, BadFile, NoMoreVersions, NoMemory}
 use Rattle.keeper.specs.Object.{Knowledge, unsure, counts, writing, Reading, Act, write_slot, replace_file, Reply, done, is_version, has, none, removed, mended, found, unknown, State, Outcome, Setup, Codec, refuse}
@@ -40,8 +40,11 @@ abbrev pub last_number : ℕ
 last_number = 2 ^ 63
 
 -- Using the next number up: where the file's number isn't above it, that is raised.
+abbrev pub raised_above : (number next : ℕ) → ℕ
+raised_above number next = cond (nat_le number next) (number + stride) number
+
 abbrev pub raised : State → ℕ
-raised s = cond (nat_le s.number s.next) (s.number + stride) s.number
+raised s = raised_above s.number s.next
 
 -- The file is replaced where its number is raised.
 abbrev pub reserve : State → List Act
@@ -55,17 +58,32 @@ writing_on s v c = record { known = writing v s.next c; bar = s.bar; next = s.ne
 abbrev pub unless : State → Bool → Refusal → Outcome → Outcome
 unless s applies e onward = cond applies (refuse s e) onward
 
+-- A question that is answered, or refused: then the caller is told why, and nothing changes.
+abbrev pub proceed : {X : Type 0} → State → Result X Refusal → (X → Outcome) → Outcome
+proceed s (Ok x) onward = onward x
+proceed s (Err e) onward = refuse s e
+
+-- Which version counts; and under which version, and with what content, the object is being written.
+abbrev pub counted : Knowledge → Result ℕ Refusal
+counted unsure = Err Unsure
+counted (writing v w c) = Err BeingWritten
+counted (counts v) = Ok v
+
+abbrev pub being_written : Knowledge → Result (ℕ × List ℕ) Refusal
+being_written unsure = Err NotBeingWritten
+being_written (counts v) = Err NotBeingWritten
+being_written (writing v w c) = Ok (w, c)
+
 -- A step that neither acts nor changes anything.
 abbrev pub tell : State → Reply → Outcome
 tell s r = record { reply = r; acts = []; state = s }
 
 -- Begin to write an object that counts a version: it is written, from that one to the next.
 abbrev pub beginning : State → List ℕ → Knowledge → Outcome
-beginning s c unsure = refuse s Unsure
-beginning s c (writing v w x) = refuse s BeingWritten
-beginning s c (counts v) =
+beginning s c k =
+    proceed s (counted k) (λ v.
     unless s (nat_le last_number s.next) NoMoreVersions
-    (record { reply = is_version s.next; acts = reserve s; state = writing_on s v c })
+    (record { reply = is_version s.next; acts = reserve s; state = writing_on s v c }))
 
 abbrev pub begin : State → List ℕ → Outcome
 begin s c = unless s (nat_lt longest (length c)) TooLong (beginning s c s.known)
@@ -81,9 +99,8 @@ write_at C s d v c r (Some k) = placed s r d k (C.encode d v (C.piece_of d c))
 
 -- Write a piece of the new version to a drive that is in.
 abbrev pub writing_to : Codec → Setup → State → ℕ → List Reading → Knowledge → Outcome
-writing_to C u s d rs unsure = refuse s NotBeingWritten
-writing_to C u s d rs (counts v) = refuse s NotBeingWritten
-writing_to C u s d rs (writing v w c) = unless s (not (u.is_in d)) DriveOut (write_at C s d w c done (place_for places d w rs))
+writing_to C u s d rs k =
+    proceed s (being_written k) (λ w. unless s (not (u.is_in d)) DriveOut (write_at C s d w.0 w.1 done (place_for places d w.0 rs)))
 
 abbrev pub write : Codec → Setup → State → ℕ → List Reading → Outcome
 write C u s d rs = unless s (nat_le u.drives d) NoSuch (writing_to C u s d rs s.known)
@@ -100,9 +117,7 @@ finish_to u s rs w =
     (record { reply = is_version w; acts = replace_file s.number w ∷ []; state = counting s w }))
 
 abbrev pub finishing : Setup → State → List Reading → Knowledge → Outcome
-finishing u s rs unsure = refuse s NotBeingWritten
-finishing u s rs (counts v) = refuse s NotBeingWritten
-finishing u s rs (writing v w c) = finish_to u s rs w
+finishing u s rs k = proceed s (being_written k) (λ w. finish_to u s rs w.0)
 
 abbrev pub finish : Setup → State → List Reading → Outcome
 finish u s rs = finishing u s rs s.known
@@ -113,9 +128,7 @@ read_as s v None = refuse s TooFewPieces
 read_as s v (Some c) = tell s (has v c)
 
 abbrev pub reading : Codec → Setup → State → List Reading → Knowledge → Outcome
-reading C u s rs unsure = refuse s Unsure
-reading C u s rs (writing v w c) = refuse s BeingWritten
-reading C u s rs (counts v) = cond (v == 0) (tell s none) (read_as s v (content_of C u v rs))
+reading C u s rs k = proceed s (counted k) (λ v. cond (v == 0) (tell s none) (read_as s v (content_of C u v rs)))
 
 abbrev pub read : Codec → Setup → State → List Reading → Outcome
 read C u s rs = reading C u s rs s.known
@@ -129,9 +142,7 @@ abbrev pub tidy_to : Setup → State → ℕ → List Reading → ℕ → Outcom
 tidy_to u s d rs v = unless s (not (u.is_in d)) DriveOut (take_away s (λ r. (r.drive == d) && not (r.version == v)) rs)
 
 abbrev pub tidying : Setup → State → ℕ → List Reading → Knowledge → Outcome
-tidying u s d rs unsure = refuse s Unsure
-tidying u s d rs (writing v w c) = refuse s BeingWritten
-tidying u s d rs (counts v) = tidy_to u s d rs v
+tidying u s d rs k = proceed s (counted k) (tidy_to u s d rs)
 
 abbrev pub tidy : Setup → State → ℕ → List Reading → Outcome
 tidy u s d rs = unless s (nat_le u.drives d) NoSuch (tidying u s d rs s.known)
@@ -160,9 +171,7 @@ mend_to C u s d rs v =
     (cond (holder d v rs) (tell s (mended 0)) (remake C s d v (place_for places d v rs) (content_of C u v rs))))
 
 abbrev pub mending : Codec → Setup → State → ℕ → List Reading → Knowledge → Outcome
-mending C u s d rs unsure = refuse s Unsure
-mending C u s d rs (writing v w c) = refuse s BeingWritten
-mending C u s d rs (counts v) = mend_to C u s d rs v
+mending C u s d rs k = proceed s (counted k) (mend_to C u s d rs)
 
 abbrev pub mend : Codec → Setup → State → ℕ → List Reading → Outcome
 mend C u s d rs = unless s (nat_le u.drives d) NoSuch (mending C u s d rs s.known)
@@ -172,9 +181,7 @@ abbrev pub forget : State → State
 forget s = record { known = unsure; bar = s.bar; next = s.next; number = s.number }
 
 abbrev pub giving_up : State → Knowledge → Outcome
-giving_up s unsure = refuse s NotBeingWritten
-giving_up s (counts v) = refuse s NotBeingWritten
-giving_up s (writing v w c) = tell (forget s) unknown
+giving_up s k = proceed s (being_written k) (λ w. tell (forget s) unknown)
 
 abbrev pub give_up : State → Outcome
 give_up s = giving_up s s.known

@@ -30,13 +30,12 @@ fn is_named(rule: Rule, entry: &Entry) -> bool
 
 // The effects, and then the taking away of every entry that the rule names, in their order.
 pub fn clears(
-    effects: Vec<Effect>,
+    mut effects: Vec<Effect>,
     entries: &[Entry],
     rule: Rule,
 ) -> Result<Vec<Effect>, AllocError>
     ensures { IfOk result (λ v. map act_of v.items ≡ map act_of effects.items ++ clears_of (names rule) (readings_of entries.now)) }
 {
-    let mut effects = effects;
     for entry in entries {
         if is_named(rule, entry) {
             effects.push(Effect::Clear {

@@ -2,7 +2,9 @@
 #![tactic(auto)]
 
 mod clearing;
+pub mod codec;
 mod content;
+pub mod deed;
 mod found;
 pub mod object;
 pub mod placing;
@@ -10,6 +12,5 @@ pub mod readings;
 pub mod refusal;
 pub mod settling;
 pub mod steps;
+pub mod view;
 pub mod writing;
-
-pub use refusal::number_of;

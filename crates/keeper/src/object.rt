@@ -1,6 +1,16 @@
 // What a step of the keeper takes and gives back: an object's state, the pieces read of it, the answer, and what is to be done outside.
+ghost use Rattle.std.specs.Prelude.{◌≡◌};
+ghost use Rattle.std.specs.Result.{result_map_both};
+ghost use Rattle.keeper.specs.Shown.{known_of, content_of, Used};
+ghost use Rattle.keeper.specs.Steps.{counted, being_written};
+
 use crate::refusal::Refusal;
 use crate::writing::Writing;
+
+const STRIDE: u64 = 1024;
+
+// The first version number that isn't used any more.
+pub const LAST_NUMBER: u64 = 1 << 63;
 
 // What is known of an object.
 #[derive(Drop)]
@@ -12,16 +22,65 @@ pub enum Known {
     Writing(Writing),
 }
 
-// An object's state, with the numbers that all objects share. A step takes it by value and hands it back.
+impl Known {
+    // The version that counts.
+    pub fn counted(&self) -> Result<u64, Refusal>
+        ensures { result ≡ counted (known_of self.now) }
+    {
+        match self {
+            Known::Unsure => Err(Refusal::Unsure),
+            Known::Writing(_) => Err(Refusal::BeingWritten),
+            Known::Counts(version) => Ok(*version),
+        }
+    }
+
+    // The writing that was begun.
+    pub fn writing(&self) -> Result<&Writing, Refusal>
+        ensures { result_map_both (λ w. (w.now.to, content_of w.now.content)) (λ e. e) result ≡ being_written (known_of self.now) }
+    {
+        match self {
+            Known::Writing(writing) => Ok(writing),
+            _ => Err(Refusal::NotBeingWritten),
+        }
+    }
+}
+
+// The numbers that all objects share.
+#[derive(Clone, Copy, PartialEq, Eq, Debug)]
+pub struct Numbers {
+    // the number of the next version, never used before
+    pub next: u64,
+    // the number in the file, 1 where there is no file
+    pub file: u64,
+}
+
+impl Numbers {
+    // The numbers once the next version's is used: where the file's isn't above it, that is raised first.
+    pub fn used(self) -> Result<Numbers, Refusal>
+        ensures { Used self result }
+    {
+        if self.next >= LAST_NUMBER {
+            return Err(Refusal::NoMoreVersions);
+        }
+        let file = if self.file <= self.next {
+            self.file + STRIDE
+        } else {
+            self.file
+        };
+        Ok(Numbers {
+            next: self.next + 1,
+            file,
+        })
+    }
+}
+
+// An object's state. A step takes it by value and hands it back.
 #[derive(Drop)]
 pub struct Object {
     pub known: Known,
     // below this version nothing of the object counts any more
     pub bar: u64,
-    // the number of the next version, never used before
-    pub next: u64,
-    // the number in the file, 1 where there is no file
-    pub number: u64,
+    pub numbers: Numbers,
 }
 
 // A piece of the object that was read on a drive that is in.
@@ -54,10 +113,9 @@ pub enum Effect {
     },
 }
 
-// What the caller is told.
+// What the caller is told of a step that isn't refused.
 #[derive(Drop)]
 pub enum Answer {
-    Refused(Refusal),
     Done,
     Version(u64),
     // the version that counts and its bytes
@@ -77,7 +135,7 @@ pub enum Answer {
 // A step: what is told once the effects are done in their order, and the object's state from then on.
 #[derive(Drop)]
 pub struct Step {
-    pub answer: Answer,
+    pub answer: Result<Answer, Refusal>,
     pub effects: Vec<Effect>,
     pub object: Object,
 }

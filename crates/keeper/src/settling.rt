@@ -1,17 +1,71 @@
 // Settling an object that is unsure.
-ghost use Rattle.std.specs.Prelude.{◌≡◌, ◌^◌, ◌<◌, ◌≤◌, IfOk, Some, None};
-ghost use Rattle.keeper.specs.Real.{GivesBy};
+ghost use Rattle.std.specs.Prelude.{◌≡◌, IfOk, Ok, Some, None};
+ghost use Rattle.keeper.specs.Real.{GivesBy, ComesBy};
 ghost use Rattle.keeper.specs.Found.{found_of, Betters, Highest};
-ghost use Rattle.keeper.specs.Shown.{state_of, readings_of, setup_of, Gives};
+ghost use Rattle.keeper.specs.Shown.{state_of, content_of, outcome_of, planned_outcome, readings_of, setup_of, Used};
 ghost use Rattle.keeper.specs.Steps.{higher, settling_on, settle as settle_of};
 
 use crate::clearing::{Rule, clears};
-use crate::content::content_of;
+use crate::codec::Codec;
+use crate::deed::changing;
 use crate::found::Candidate;
-use crate::object::{Answer, Effect, Entry, Known, Object, Step};
+use crate::object::{Answer, Effect, Known, Numbers, Object, Step};
 use crate::refusal::Refusal;
-use crate::steps::{LAST_NUMBER, raised, refuse, reserve, written_on};
-use std::alloc::{AllocError, Global};
+use crate::steps::reserve;
+use crate::view::View;
+use crate::writing::Writing;
+use std::alloc::AllocError;
+
+// Settles an object that is unsure.
+pub fn settle(view: View<'_>, codec: Codec, object: Object) -> Step
+    ensures { GivesBy codec.need codec.object result (state_of object) (λ C. settle_of C (setup_of codec.need view.entry.present.now) (state_of object) (readings_of view.entry.entries.now)) }
+{
+    let planned = settled(view, codec, &object);
+    changing(view.heap, object, planned)
+}
+
+fn settled(view: View<'_>, codec: Codec, object: &Object) -> Result<Step, Refusal>
+    ensures { ComesBy codec.need codec.object (planned_outcome (state_of object.now) result) (state_of object.now) (λ C. settle_of C (setup_of codec.need view.entry.present.now) (state_of object.now) (readings_of view.entry.entries.now)) }
+{
+    let Known::Unsure = &object.known else {
+        return Err(Refusal::NotUnsure);
+    };
+    let used = object.numbers.used()?;
+    match highest(view, codec, object.bar)? {
+        Some(candidate) => Ok(settle_on(view, object, used, candidate)?),
+        None => Ok(settle_none(view, object, used)?),
+    }
+}
+
+// The highest version that isn't below the bar, and of which enough pieces are in and work out.
+fn highest(view: View<'_>, codec: Codec, bar: u64) -> Result<Option<Candidate>, AllocError>
+    ensures { IfOk result (λ b. Highest codec.need bar (readings_of view.entry.entries.now) (found_of b)) }
+{
+    let mut best = None;
+    for entry in view.entries {
+        best = better(view, codec, bar, best, entry.version)?;
+    }
+    Ok(best)
+}
+
+// The better of what was found so far and a version: it isn't 0, isn't below the bar, is higher, and works out.
+fn better(
+    view: View<'_>,
+    codec: Codec,
+    bar: u64,
+    best: Option<Candidate>,
+    version: u64,
+) -> Result<Option<Candidate>, AllocError>
+    ensures { IfOk result (λ b. Betters codec.need bar (readings_of view.entry.entries.now) (found_of best) version (found_of b)) }
+{
+    if version < 1 || version < bar || !is_higher(version, &best) {
+        return Ok(best);
+    }
+    match codec.content(view.heap, view.entries, version)? {
+        Some(content) => Ok(Some(Candidate { version, content })),
+        None => Ok(best),
+    }
+}
 
 fn is_higher(version: u64, best: &Option<Candidate>) -> bool
     ensures { result ≡ higher version (found_of best.now) }
@@ -22,115 +76,53 @@ fn is_higher(version: u64, best: &Option<Candidate>) -> bool
     }
 }
 
-// The better of what was found so far and a version: it isn't 0, isn't below the bar, is higher, and works out.
-fn better(
-    heap: Global,
-    need: u8,
-    entries: &[Entry],
-    bar: u64,
-    best: Option<Candidate>,
-    version: u64,
-) -> Result<Option<Candidate>, AllocError>
-    requires { (0 < need) × (need ≤ 31) }
-    ensures { IfOk result (λ b. Betters need bar (readings_of entries.now) (found_of best) version (found_of b)) }
+// A version was found: it is written anew under the next number, and all pieces but its and the bar's go.
+fn settle_on(
+    view: View<'_>,
+    object: &Object,
+    used: Numbers,
+    candidate: Candidate,
+) -> Result<Step, AllocError>
+    requires { Used object.now.numbers (Ok used) }
+    ensures { IfOk result (λ step. outcome_of step ≡ settling_on (state_of object.now) (readings_of view.entry.entries.now) (Some (candidate.version, content_of candidate.content))) }
 {
-    if version < 1 || version < bar || !is_higher(version, &best) {
-        return Ok(best);
-    }
-    match content_of(heap, need, entries, version)? {
-        Some(bytes) => Ok(Some(Candidate { version, bytes })),
-        None => Ok(best),
-    }
-}
-
-// The highest version that isn't below the bar, and of which enough pieces are in and work out.
-fn highest(
-    heap: Global,
-    need: u8,
-    entries: &[Entry],
-    bar: u64,
-) -> Result<Option<Candidate>, AllocError>
-    requires { (0 < need) × (need ≤ 31) }
-    ensures { IfOk result (λ b. Highest need bar (readings_of entries.now) (found_of b)) }
-{
-    let mut best = None;
-    for entry in entries {
-        best = better(heap, need, entries, bar, best, entry.version)?;
-    }
-    Ok(best)
+    let Candidate { version, content } = candidate;
+    let next = object.numbers.next;
+    let rule = Rule::AllBut {
+        version,
+        other: object.bar,
+    };
+    let effects = clears(reserve(view.heap, object, used)?, view.entries, rule)?;
+    Ok(Step {
+        answer: Ok(Answer::Found(version, next)),
+        effects,
+        object: Object {
+            known: Known::Writing(Writing {
+                from: version,
+                to: object.numbers.next,
+                content,
+            }),
+            bar: object.bar,
+            numbers: used,
+        },
+    })
 }
 
 // Nothing was found: the object counts 0, and the next number, used up by that, is its bar.
-fn settle_none(heap: Global, object: Object, entries: &[Entry]) -> Step
-    requires { object.next < 2 ^ 63 }
-    ensures { Gives result (state_of object) (settling_on (state_of object) (readings_of entries.now) None) }
+fn settle_none(view: View<'_>, object: &Object, used: Numbers) -> Result<Step, AllocError>
+    requires { Used object.now.numbers (Ok used) }
+    ensures { IfOk result (λ step. outcome_of step ≡ settling_on (state_of object.now) (readings_of view.entry.entries.now) None) }
 {
-    let number = raised(&object);
-    let bar = object.next;
-    let mut effects = Vec::new(heap);
-    if effects.push(Effect::Replace { number, bar }).is_err() {
-        return refuse(heap, object, Refusal::NoMemory);
-    }
-    Step {
-        answer: Answer::Nothing,
+    let bar = object.numbers.next;
+    let number = used.file;
+    let effects = vec![in view.heap; Effect::Replace { number, bar }]?;
+    Ok(Step {
+        answer: Ok(Answer::Nothing),
         effects,
         object: Object {
             known: Known::Counts(0),
             bar,
-            next: bar + 1,
-            number,
+            numbers: used,
         },
-    }
-}
-
-// A version was found: it is written anew under the next number, and all pieces but its and the bar's go.
-fn settle_on(heap: Global, object: Object, entries: &[Entry], candidate: Candidate) -> Step
-    requires { object.next < 2 ^ 63 }
-    ensures { Gives result (state_of object) (settling_on (state_of object) (readings_of entries.now) (Some (candidate.version, candidate.bytes.items))) }
-{
-    let Ok(effects) = reserve(heap, &object) else {
-        return refuse(heap, object, Refusal::NoMemory);
-    };
-    let version = candidate.version;
-    let Ok(effects) = clears(
-        effects,
-        entries,
-        Rule::AllBut {
-            version,
-            other: object.bar,
-        },
-    ) else {
-        return refuse(heap, object, Refusal::NoMemory);
-    };
-    let next = object.next;
-    Step {
-        answer: Answer::Found(version, next),
-        effects,
-        object: written_on(object, version, candidate.bytes),
-    }
-}
-
-// Settles an object that is unsure.
-pub fn settle(
-    heap: Global,
-    number: u8,
-    need: u8,
-    present: &[bool],
-    object: Object,
-    entries: &[Entry],
-) -> Step
-    requires { (0 < need) × (need ≤ 31) }
-    ensures { GivesBy need number result (state_of object) (λ C. settle_of C (setup_of need present.now) (state_of object) (readings_of entries.now)) }
-{
-    let Known::Unsure = &object.known else {
-        return refuse(heap, object, Refusal::NotUnsure);
-    };
-    if object.next >= LAST_NUMBER {
-        return refuse(heap, object, Refusal::NoMoreVersions);
-    }
-    match highest(heap, need, entries, object.bar) {
-        Ok(Some(candidate)) => settle_on(heap, object, entries, candidate),
-        Ok(None) => settle_none(heap, object, entries),
-        Err(_) => refuse(heap, object, Refusal::NoMemory),
-    }
+    })
 }

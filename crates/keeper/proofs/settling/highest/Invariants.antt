@@ -9,6 +9,6 @@ use Rattle.keeper.proofs.settling.highest.Given as goal
 -- What was found so far, and then what is left to look at, decide.
 abbrev pub invariant-loop-entry : goal.invariant-loop-entry
 invariant-loop-entry l =
-    (o : ℕ) (f : WorkOut) (u : Setup) → WorksOut l.need f → u.need ≡ l.need →
-    highest (codec_of l.need o f) u l.bar (readings_of l.entries) (found_of l.best) (readings_of (drop l.entry-index l.entries))
-    ≡ highest (codec_of l.need o f) u l.bar (readings_of l.entries) None (readings_of l.entries)
+    (o : ℕ) (f : WorkOut) (u : Setup) → WorksOut l.codec.need f → u.need ≡ l.codec.need →
+    highest (codec_of l.codec.need o f) u l.bar (readings_of l.view.entries.now) (found_of l.best) (readings_of (drop l.entry-index l.view.entries.now))
+    ≡ highest (codec_of l.codec.need o f) u l.bar (readings_of l.view.entries.now) None (readings_of l.view.entries.now)

@@ -2,7 +2,7 @@ use Rattle.std.proofs.Common.{◌≡◌, ◌++◌, map, drop, vec_items, filter}
 use Rattle.keeper.specs.Readings.{counts_as, pieces_of, given}
 use Rattle.keeper.specs.Real.{piece_given}
 use Rattle.keeper.specs.Shown.{readings_of}
-use Rattle.keeper.proofs.content.pieces_of.Given as given_of
+use Rattle.keeper.proofs.codec.pieces_of.Given as given_of
 
 -- What was chosen so far, and then what is left to choose.
 abbrev pub invariant-loop-entry : given_of.invariant-loop-entry
