@@ -1,6 +1,9 @@
 -- The steps of a loop over a slice that looks for an element or adds up what it meets, by what is left to look at.
-use Rattle.std.proofs.Common.{◌≡◌, ℕ, zero, suc, ◌+◌, ◌-◌, ◌<◌, ◌≤◌, Bool, true, false, cond, List, ◌∷◌, map, length, get_or, drop, Some, None, Option, refl, ⊎_elim, add-one, arith}
-use Rattle.std.proofs.lemmas.List.{drop_more, drop_all}
+use Rattle.std.proofs.Common.{◌≡◌, ℕ, zero, suc, ◌+◌, ◌-◌, ◌<◌, ◌≤◌, Bool, true, false, cond, List, [], ◌∷◌, map, length, get_or, take, drop, Some, None, refl, ap, ◌∙◌, ⊎_elim, add-one, ◌||◌, arith}
+use Rattle.std.proofs.lemmas.List.{drop_more, take_all}
+use Rattle.std.proofs.lemmas.List.Sums.{count_by_more_yes, count_by_more_no}
+use Rattle.std.specs.List.{list_any, count_by, find}
+use Rattle.std.specs.Option.{option_map}
 use Rattle.std.proofs.lemmas.Bool.{cases_eq, and_right}
 use Rattle.keeper.specs.declared.object.Entry.{Entry}
 use Rattle.keeper.specs.Object.{Reading}
@@ -11,37 +14,26 @@ use Rattle.keeper.specs.Readings.{any_of, is_of, taken, how_many_in, out_or_has,
 pub drop_read : {X : Type 0} (xs : List X) (i : ℕ) (x : X) → i < length xs → x ≡ get_or xs i x → drop i xs ≡ x ∷ drop (i + 1) xs
 drop_read xs i x h e = let more = drop_more xs i x h in cc
 
--- A loop that looks for an element that passes `p`: what is left decides. `b` is what the test said of the element that was read.
-module _ {X Y : Type 0} (p : Y → Bool) (f : X → Y) (xs : List X) (i : ℕ) (r : Bool) (inv : any_of p (map f (drop i xs)) ≡ r) where
-  pub any_found : (x : X) (b : Bool) → i < length xs → x ≡ get_or xs i x → b ≡ p (f x) → b ≡ true → true ≡ r
-  unfolding any_of
-  any_found x b h e said t = let seen = drop_read xs i x h e in let yes : p (f x) ≡ true = cc in rw (seen, yes) at inv
+-- Whether some element passes, in the words of the library.
+pub any_seen : {X Y : Type 0} (p : Y → Bool) (f : X → Y) (xs : List X) → any_of p (map f xs) ≡ list_any (λ x. p (f x)) xs
+unfolding any_of
+any_seen p f [] = refl
+any_seen p f (x ∷ xs) = ap (λ b. p (f x) || b) (any_seen p f xs)
 
-  pub any_again : (x : X) (b : Bool) → i < length xs → x ≡ get_or xs i x → b ≡ p (f x) → b ≡ false → any_of p (map f (drop (i + 1) xs)) ≡ r
-  unfolding any_of
-  any_again x b h e said t = let seen = drop_read xs i x h e in let no : p (f x) ≡ false = cc in rw (seen, no) at inv
+-- The drives that are in, counted from the last or from the first.
+counted_step : (flags : List Bool) (n k : ℕ) (b : Bool) → n < length flags → get_or flags n false ≡ b → k ≡ count_by (λ x. x) (take n flags) → cond b 1 0 + k ≡ count_by (λ x. x) (take (n + 1) flags)
+counted_step flags n k true h e before = omega (arith, before, count_by_more_yes (λ x. x) flags n false h e)
+counted_step flags n k false h e before = omega (arith, before, count_by_more_no (λ x. x) flags n false h e)
 
-  pub any_none : length xs ≤ i → false ≡ r
-  unfolding any_of
-  any_none h = let end = drop_all i xs h in rw end at inv
-
--- A loop that counts the drives that are in: none, one more, and at most as many as were looked at.
-pub how_many_in_none : (is_in : ℕ → Bool) → how_many_in 0 is_in ≡ 0
+pub how_many_in_taken : (flags : List Bool) (n : ℕ) → n ≤ length flags → how_many_in n (λ d. get_or flags d false) ≡ count_by (λ x. x) (take n flags)
 unfolding how_many_in
-how_many_in_none is_in = refl
+how_many_in_taken flags zero h = refl
+how_many_in_taken flags (suc n) h =
+    counted_step flags n (how_many_in n (λ d. get_or flags d false)) (get_or flags n false) (omega arith) refl (how_many_in_taken flags n (omega arith))
+    ∙ ap (λ k. count_by (λ x. x) (take k flags)) (add-one n)
 
-pub how_many_in_more : (i : ℕ) (is_in : ℕ → Bool) → is_in i ≡ true → how_many_in (i + 1) is_in ≡ how_many_in i is_in + 1
-unfolding how_many_in
-how_many_in_more i is_in h = rw (add-one, h) (omega arith)
-
-pub how_many_in_same : (i : ℕ) (is_in : ℕ → Bool) → is_in i ≡ false → how_many_in (i + 1) is_in ≡ how_many_in i is_in
-unfolding how_many_in
-how_many_in_same i is_in h = rw (add-one, h) (omega arith)
-
-pub how_many_in_few : (i : ℕ) (is_in : ℕ → Bool) → how_many_in i is_in ≤ i
-unfolding how_many_in
-how_many_in_few zero is_in = omega arith
-how_many_in_few (suc i) is_in = elim (is_in i) as (λ b. cond b 1 0 + how_many_in i is_in ≤ suc i) [ true ↦ omega (arith, how_many_in_few i is_in) | false ↦ omega (arith, how_many_in_few i is_in) ]
+pub how_many_in_all : (flags : List Bool) → how_many_in (length flags) (λ d. get_or flags d false) ≡ count_by (λ x. x) flags
+how_many_in_all flags = how_many_in_taken flags (length flags) (omega arith) ∙ ap (count_by (λ x. x)) (take_all (length flags) flags (omega arith))
 
 -- A loop that looks for a drive that is in and lacks the version.
 module _ (is_in : ℕ → Bool) (v : ℕ) (rs : List Reading) where
@@ -73,16 +65,8 @@ module _ (d : ℕ) (rs : List Reading) where
   unfolding free_place
   free_none k n h = let z : n - k ≡ 0 = omega arith in rw z
 
--- A loop that looks for the place of a version: what is left decides.
-module _ (d v : ℕ) (es : List Entry) (i : ℕ) (r : Option ℕ) (inv : own_place d v (readings_of (drop i es)) ≡ r) where
-  pub own_found : (x : Entry) → i < length es → x ≡ get_or es i x → is_of d v (reading_of x) ≡ true → Some x.place ≡ r
-  unfolding own_place
-  own_found x h e is = let seen = drop_read es i x h e in rw (seen, is) at inv
-
-  pub own_again : (x : Entry) → i < length es → x ≡ get_or es i x → is_of d v (reading_of x) ≡ false → own_place d v (readings_of (drop (i + 1) es)) ≡ r
-  unfolding own_place
-  own_again x h e isnt = let seen = drop_read es i x h e in rw (seen, isnt) at inv
-
-  pub own_none : length es ≤ i → None ≡ r
-  unfolding own_place
-  own_none h = let end = drop_all i es h in rw end at inv
+-- The place of the first piece of a version on a drive.
+pub own_place_found : (d v : ℕ) (es : List Entry) → own_place d v (readings_of es) ≡ option_map (λ e. e.place) (find (λ e. is_of d v (reading_of e)) es)
+unfolding own_place
+own_place_found d v [] = refl
+own_place_found d v (e ∷ es) = elim (is_of d v (reading_of e)) as (λ b. cond b (Some e.place) (own_place d v (readings_of es)) ≡ option_map (λ e. e.place) (cond b (Some e) (find (λ e. is_of d v (reading_of e)) es))) [ true ↦ refl | false ↦ own_place_found d v es ]

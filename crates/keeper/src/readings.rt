@@ -33,49 +33,32 @@ fn counts_at(entries: &[Entry], drive: u8, place: u8, entry: &Entry) -> bool
 pub fn is_holder(entries: &[Entry], drive: u8, version: u64) -> bool
     ensures { result ≡ holder_of drive version (readings_of entries.now) }
 {
-    for entry in entries {
-        if is_of(entry, drive, version) {
-            return true;
-        }
-    }
-    false
+    entries
+        .iter()
+        .any(|entry| is_of(entry, drive, version))
 }
 
 // Whether a lower place of the same drive has the same version, so that the place of this one counts as free.
 pub fn is_copy(entries: &[Entry], copy: &Entry) -> bool
     ensures { result ≡ copied_of (readings_of entries.now) (reading_of copy.now) }
 {
-    for entry in entries {
-        if is_preceded(copy, entry) {
-            return true;
-        }
-    }
-    false
+    entries.iter().any(|entry| is_preceded(copy, entry))
 }
 
 // Whether a place of a drive holds something that counts.
 fn is_taken(entries: &[Entry], drive: u8, place: u8) -> bool
     ensures { result ≡ taken_of drive place (readings_of entries.now) }
 {
-    for entry in entries {
-        if counts_at(entries, drive, place, entry) {
-            return true;
-        }
-    }
-    false
+    entries
+        .iter()
+        .any(|entry| counts_at(entries, drive, place, entry))
 }
 
 // How many drives are in.
 pub fn how_many_in(present: &[bool]) -> usize
     ensures { result ≡ how_many_in (length present.now) (λ d. slice_index_or present.now d false) }
 {
-    let mut count = 0;
-    for is_in in present {
-        if *is_in {
-            count += 1;
-        }
-    }
-    count
+    present.iter().filter(|is_in| **is_in).count()
 }
 
 // Whether all drives that are in have the version.
@@ -101,12 +84,10 @@ fn is_out_or_holder(entries: &[Entry], is_in: bool, drive: u8, version: u64) -> 
 fn own_place(entries: &[Entry], drive: u8, version: u64) -> Option<u8>
     ensures { result ≡ own_place drive version (readings_of entries.now) }
 {
-    for entry in entries {
-        if is_of(entry, drive, version) {
-            return Some(entry.place);
-        }
-    }
-    None
+    let own = entries
+        .iter()
+        .find(|entry| is_of(entry, drive, version))?;
+    Some(own.place)
 }
 
 // The lowest place of the drive that is free.

@@ -1,18 +1,12 @@
-use Rattle.keeper.specs.Shown.{reading_of}
+use Rattle.std.proofs.Common.{sym, ◌∙◌, rules, tests}
+use Rattle.std.proofs.lemmas.Iterator.{YieldsList-from_slice}
+use Rattle.std.proofs.lemmas.Iterator.Search.{any_from_yields_List}
 use Rattle.keeper.specs.Readings.{is_of}
-use Rattle.keeper.proofs.Scan.{any_found, any_again, any_none}
+use Rattle.keeper.specs.Shown.{reading_of, readings_of}
+use Rattle.keeper.proofs.Scan.{any_seen}
 use Rattle.keeper.proofs.readings.is_holder.Goals as goal
-
-pub loop-entry-preserved : goal.loop-entry-preserved
-loop-entry-preserved c =
-    any_again (is_of c.args.drive c.args.version) reading_of c.args.entries.now c.loop-entry.entry-index _ c.loop-entry.invariant
-    c.entry-item.result c.is_of.result c.loop-entry-test.true c.entry-item.is c.is_of.ensures c.if-is_of.false
-
-pub returns-then-is_of : goal.returns-then-is_of
-returns-then-is_of c =
-    any_found (is_of c.args.drive c.args.version) reading_of c.args.entries.now c.loop-entry.entry-index _ c.loop-entry.invariant
-    c.entry-item.result c.is_of.result c.loop-entry-test.true c.entry-item.is c.is_of.ensures c.if-is_of.true
 
 pub returns : goal.returns
 returns c =
-    any_none (is_of c.args.drive c.args.version) reading_of c.args.entries.now c.loop-entry.entry-index _ c.loop-entry.invariant c.loop-entry-test.false
+    any_from_yields_List (λ e. is_of c.args.drive c.args.version (reading_of e)) _ _ _ c.any.ensures.ran (YieldsList-from_slice c.args.entries.now (cc)) (λ x b q k. search (rules, tests))
+    ∙ sym (any_seen (is_of c.args.drive c.args.version) reading_of c.args.entries.now)

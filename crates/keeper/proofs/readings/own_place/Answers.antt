@@ -1,17 +1,17 @@
-use Rattle.std.proofs.Common.{sym, ◌∙◌}
-use Rattle.keeper.proofs.Scan.{own_found, own_again, own_none}
+use Rattle.std.proofs.Common.{◌≡◌, refl, rules, tests}
+use Rattle.std.proofs.lemmas.Iterator.{YieldsList-from_slice}
+use Rattle.std.proofs.lemmas.Iterator.Search.{find_from_yields_List}
+use Rattle.keeper.specs.Readings.{is_of}
+use Rattle.keeper.specs.Shown.{reading_of}
+use Rattle.keeper.proofs.Scan.{own_place_found}
 use Rattle.keeper.proofs.readings.own_place.Goals as goal
 
-pub loop-entry-preserved : goal.loop-entry-preserved
-loop-entry-preserved c =
-    own_again c.args.drive c.args.version c.args.entries.now c.loop-entry.entry-index _ c.loop-entry.invariant
-    c.entry-item.result c.loop-entry-test.true c.entry-item.is (sym c.is_of.ensures ∙ c.if-is_of.false)
-
-pub returns-then-is_of : goal.returns-then-is_of
-returns-then-is_of c =
-    own_found c.args.drive c.args.version c.args.entries.now c.loop-entry.entry-index _ c.loop-entry.invariant
-    c.entry-item.result c.loop-entry-test.true c.entry-item.is (sym c.is_of.ensures ∙ c.if-is_of.true)
+pub returns-in_err-own : goal.returns-in_err-own
+returns-in_err-own c =
+    let found = find_from_yields_List (λ e. is_of c.args.drive c.args.version (reading_of e)) _ _ c.find.result c.find.ensures.ran (YieldsList-from_slice c.args.entries.now (cc)) (λ x b q k. search (rules, tests)) in
+    rw (own_place_found c.args.drive c.args.version c.args.entries.now, ← found, c.in_err-own.was) c.from_residual.ensures
 
 pub returns : goal.returns
 returns c =
-    own_none c.args.drive c.args.version c.args.entries.now c.loop-entry.entry-index _ c.loop-entry.invariant c.loop-entry-test.false
+    let found = find_from_yields_List (λ e. is_of c.args.drive c.args.version (reading_of e)) _ _ c.find.result c.find.ensures.ran (YieldsList-from_slice c.args.entries.now (cc)) (λ x b q k. search (rules, tests)) in
+    rw (own_place_found c.args.drive c.args.version c.args.entries.now, ← found, c.in_ok-own.was) refl

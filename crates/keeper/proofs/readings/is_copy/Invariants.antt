@@ -1,8 +1,0 @@
-use Rattle.std.proofs.Common.{◌≡◌, drop}
-use Rattle.keeper.specs.Shown.{reading_of, readings_of}
-use Rattle.keeper.specs.Readings.{any_of, precedes}
-use Rattle.keeper.proofs.readings.is_copy.Given as goal
-
--- What is left decides.
-abbrev pub invariant-loop-entry : goal.invariant-loop-entry
-invariant-loop-entry l = any_of (precedes (reading_of l.copy)) (readings_of (drop l.entry-index l.entries)) ≡ any_of (precedes (reading_of l.copy)) (readings_of l.entries)
