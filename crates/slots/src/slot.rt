@@ -47,11 +47,7 @@ pub fn slot_len() -> usize
 pub fn record_len(piece: usize) -> Option<usize>
     ensures { result ≡ record_room piece }
 {
-    if piece <= PIECE {
-        Some(HEADER + piece + TRAILER)
-    } else {
-        None
-    }
+    (piece <= PIECE).then(|| HEADER + piece + TRAILER)
 }
 
 // What stands before a piece.
@@ -165,7 +161,7 @@ pub fn write(slot: &mut [u8], owner: Owner, version: u64, piece: &[u8]) -> bool
     }
     put(slot, 0, &header_bytes(owner, version, piece.len() as u32));
     put(slot, HEADER, piece);
-    let sum = adler(&slot[0..end - TRAILER]);
+    let sum = adler(&slot[..end - TRAILER]);
     put(slot, end - TRAILER, &sum.to_be_bytes());
     true
 }
@@ -175,11 +171,11 @@ pub fn clear(slot: &mut [u8], owner: Owner) -> bool
     ensures answer { result ≡ is_held (read_slot owner.object owner.drive slot.old) }
     ensures after { slot.new ≡ cleared owner.object owner.drive slot.old }
 {
-    let end = match read(slot, owner) {
-        Some(held) => HEADER + held.piece.len() + TRAILER,
-        None => return false,
+    let Some(held) = read(slot, owner) else {
+        return false;
     };
-    slot[0..end].fill(0);
+    let end = HEADER + held.piece.len() + TRAILER;
+    slot[..end].fill(0);
     true
 }
 

@@ -24,8 +24,8 @@ returns c =
     let fits = has_room_lem s p room.0 (omega arith) in
     record {
       answer = fits;
-      after = written_put c.args.owner.object c.args.owner.drive c.args.version (end - 4) (end - 4 - 0) c.adler-sum.result
-          p s c.put.new.slot c.put-2.new.slot c.put-3.new.slot fits (omega arith) (omega arith)
+      after = written_put c.args.owner.object c.args.owner.drive c.args.version (end - 4) c.adler-sum.result
+          p s c.put.new.slot c.put-2.new.slot c.put-3.new.slot fits (omega arith)
           (c.put.ensures ∙ ap (put_at s 0) c.header_bytes.ensures) c.put-2.ensures c.adler-sum.ensures
           (c.put-3.ensures ∙ ap (put_at c.put-2.new.slot (end - 4)) (c.to_be_bytes.ensures ∙ bytes4 c.adler-sum.result));
     }
