@@ -10,21 +10,21 @@ ghost use Rattle.drives.specs.Steps.{write_answer, after_write, taken_at, after_
 use crate::layout::{PLACES, bounds, slot_of};
 use crate::rule::Rule;
 use crate::view::{place_in, versions};
-use slots::{clear, read, write};
+use slots::{Owner, clear, read, write};
 
 // Why a piece isn't written: there is no room for it, or four other versions are there.
-#[derive(Clone, Copy)]
+#[derive(Clone, Copy, PartialEq, Eq, Debug)]
 pub enum Unwritten {
     NoRoom,
     NoPlace,
 }
 
 // The piece of a version of an object on a drive, still in the drive's bytes.
-pub fn find_piece(drive: &[u8], object: u8, number: u8, version: u64) -> Option<&[u8]>
-    ensures { option_map (λ x. x.now) result ≡ find version (readings drive.now object number) }
+pub fn find_piece(drive: &[u8], owner: Owner, version: u64) -> Option<&[u8]>
+    ensures { option_map (λ x. x.now) result ≡ find version (readings drive.now owner.object owner.drive) }
 {
     for place in 0..PLACES {
-        if let Some(held) = read(slot_of(drive, object, place), object, number) {
+        if let Some(held) = read(slot_of(drive, owner.object, place), owner) {
             if held.version == version {
                 return Some(held.piece);
             }
@@ -34,44 +34,36 @@ pub fn find_piece(drive: &[u8], object: u8, number: u8, version: u64) -> Option<
 }
 
 // The place for a version of an object on a drive: its own, else the lowest that holds nothing that counts; none where four other versions are there.
-pub fn place_for(drive: &[u8], object: u8, number: u8, version: u64) -> Option<usize>
-    ensures { result ≡ place_for version (readings drive.now object number) }
+pub fn place_for(drive: &[u8], owner: Owner, version: u64) -> Option<usize>
+    ensures { result ≡ place_for version (readings drive.now owner.object owner.drive) }
 {
-    place_in(version, &versions(drive, object, number))
+    place_in(version, &versions(drive, owner))
 }
 
 // Writes a piece of a version at a place, and leaves every other slot. False, and nothing changes, where there is no room for it.
-fn write_at(
-    drive: &mut [u8],
-    object: u8,
-    number: u8,
-    place: usize,
-    version: u64,
-    piece: &[u8],
-) -> bool
+fn write_at(drive: &mut [u8], owner: Owner, place: usize, version: u64, piece: &[u8]) -> bool
     requires { place < places }
-    ensures answer { result ≡ has_room (slot_at drive.old object place) piece.now }
-    ensures after { drive.new ≡ with_slot drive.old object place (written object number version piece.now (slot_at drive.old object place)) }
+    ensures answer { result ≡ has_room (slot_at drive.old owner.object place) piece.now }
+    ensures after { drive.new ≡ with_slot drive.old owner.object place (written owner.object owner.drive version piece.now (slot_at drive.old owner.object place)) }
 {
-    let (from, to) = bounds(drive.len(), object, place);
-    write(&mut drive[from..to], object, number, version, piece)
+    let (from, to) = bounds(drive.len(), owner.object, place);
+    write(&mut drive[from..to], owner, version, piece)
 }
 
 // Writes a piece of a version of an object to the place for it, and says which that is. Refused, nothing changes.
 pub fn write_piece(
     drive: &mut [u8],
-    object: u8,
-    number: u8,
+    owner: Owner,
     version: u64,
     piece: &[u8],
 ) -> Result<usize, Unwritten>
-    ensures answer { result ≡ write_answer drive.old object number version piece.now }
-    ensures after { drive.new ≡ after_write drive.old object number version piece.now }
+    ensures answer { result ≡ write_answer drive.old owner.object owner.drive version piece.now }
+    ensures after { drive.new ≡ after_write drive.old owner.object owner.drive version piece.now }
 {
-    let Some(place) = place_for(drive, object, number, version) else {
+    let Some(place) = place_for(drive, owner, version) else {
         return Err(Unwritten::NoPlace);
     };
-    if write_at(drive, object, number, place, version, piece) {
+    if write_at(drive, owner, place, version, piece) {
         Ok(place)
     } else {
         Err(Unwritten::NoRoom)
@@ -79,38 +71,38 @@ pub fn write_piece(
 }
 
 // Whether a rule names what the slot at a place reads as.
-fn is_named(drive: &[u8], object: u8, number: u8, place: usize, rule: Rule) -> bool
+fn is_named(drive: &[u8], owner: Owner, place: usize, rule: Rule) -> bool
     requires { place < places }
-    ensures { result ≡ names_slot rule (read_slot object number (slot_at drive.now object place)) }
+    ensures { result ≡ names_slot rule (read_slot owner.object owner.drive (slot_at drive.now owner.object place)) }
 {
-    match read(slot_of(drive, object, place), object, number) {
+    match read(slot_of(drive, owner.object, place), owner) {
         Some(held) => rule.names_version(held.version),
         None => false,
     }
 }
 
 // Takes away what a rule names at a place, and says whether it does.
-fn take_at(drive: &mut [u8], object: u8, number: u8, place: usize, rule: Rule) -> bool
+fn take_at(drive: &mut [u8], owner: Owner, place: usize, rule: Rule) -> bool
     requires { place < places }
-    ensures answer { result ≡ names_slot rule (read_slot object number (slot_at drive.old object place)) }
-    ensures after { drive.new ≡ taken_at drive.old object number place rule }
+    ensures answer { result ≡ names_slot rule (read_slot owner.object owner.drive (slot_at drive.old owner.object place)) }
+    ensures after { drive.new ≡ taken_at drive.old owner.object owner.drive place rule }
 {
-    if !is_named(drive, object, number, place, rule) {
+    if !is_named(drive, owner, place, rule) {
         return false;
     }
-    let (from, to) = bounds(drive.len(), object, place);
-    clear(&mut drive[from..to], object, number);
+    let (from, to) = bounds(drive.len(), owner.object, place);
+    clear(&mut drive[from..to], owner);
     true
 }
 
 // Takes away all pieces of an object that a rule names, copies too, and says how many.
-pub fn take_away(drive: &mut [u8], object: u8, number: u8, rule: Rule) -> usize
-    ensures answer { result ≡ how_many_named drive.old object number rule }
-    ensures after { drive.new ≡ after_taking drive.old object number rule }
+pub fn take_away(drive: &mut [u8], owner: Owner, rule: Rule) -> usize
+    ensures answer { result ≡ how_many_named drive.old owner.object owner.drive rule }
+    ensures after { drive.new ≡ after_taking drive.old owner.object owner.drive rule }
 {
     let mut gone = 0;
     for place in 0..PLACES {
-        if take_at(drive, object, number, place, rule) {
+        if take_at(drive, owner, place, rule) {
             gone += 1;
         }
     }

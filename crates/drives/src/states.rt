@@ -17,51 +17,7 @@ pub struct Drives {
 pub fn how_many(flags: &[bool]) -> usize
     ensures { result ≡ how_many flags.now }
 {
-    let mut n = 0;
-    for flag in flags {
-        if *flag {
-            n += 1;
-        }
-    }
-    n
-}
-
-// A flag; false past the end.
-fn flag_at(flags: &[bool], at: usize) -> bool
-    ensures { result ≡ slice_index_or flags.now at false }
-{
-    if at < flags.len() { flags[at] } else { false }
-}
-
-// Sets or clears a flag; past the end nothing changes.
-fn set_flag(flags: &mut [bool], at: usize, flag: bool)
-    ensures { flags.new ≡ slice_set flags.old at flag }
-{
-    if at < flags.len() {
-        flags[at] = flag;
-    }
-}
-
-// How many of the first so many flags are set.
-fn how_many_below(flags: &[bool], end: usize) -> usize
-    ensures { result ≡ how_many (take end flags.now) }
-{
-    if end < flags.len() {
-        how_many(&flags[0..end])
-    } else {
-        how_many(flags)
-    }
-}
-
-// The first so many flags.
-fn flags_below(flags: &[bool], end: usize) -> &[bool]
-    ensures { result.now ≡ take end flags.now }
-{
-    if end < flags.len() {
-        &flags[0..end]
-    } else {
-        flags
-    }
+    flags.iter().filter(|flag| **flag).count()
 }
 
 impl Drives {
@@ -69,7 +25,7 @@ impl Drives {
     pub fn new(count: u8) -> Option<Drives>
         ensures { MatchOption result (may_count count ≡ false) (λ s. (may_count count ≡ true) × (s.count ≡ count) × (s.present ≡ replicate most_drives true)) }
     {
-        if count < 2 || count as usize > MOST {
+        if count < 2 || usize::from(count) > MOST {
             return None;
         }
         Some(Drives {
@@ -89,7 +45,20 @@ impl Drives {
     pub fn is_in(&self, drive: u8) -> bool
         ensures { result ≡ in_at self.now.count self.now.present drive }
     {
-        drive < self.count && flag_at(&self.present, drive as usize)
+        drive < self.count && self.present[usize::from(drive)]
+    }
+
+    // Whether the drive is in from now on. False, and nothing changes, where there is no such drive.
+    fn set(&mut self, drive: u8, is_in: bool) -> bool
+        ensures answer { result ≡ nat_lt drive self.old.count }
+        ensures count { self.new.count ≡ self.old.count }
+        ensures after { self.new.present ≡ set_at self.old.count self.old.present drive is_in }
+    {
+        if drive >= self.count {
+            return false;
+        }
+        self.present[usize::from(drive)] = is_in;
+        true
     }
 
     // The drive is in from now on. False, and nothing changes, where there is no such drive.
@@ -98,11 +67,7 @@ impl Drives {
         ensures count { self.new.count ≡ self.old.count }
         ensures after { self.new.present ≡ set_at self.old.count self.old.present drive true }
     {
-        if drive >= self.count {
-            return false;
-        }
-        set_flag(&mut self.present, drive as usize, true);
-        true
+        self.set(drive, true)
     }
 
     // The drive is out from now on. False, and nothing changes, where there is no such drive.
@@ -111,11 +76,7 @@ impl Drives {
         ensures count { self.new.count ≡ self.old.count }
         ensures after { self.new.present ≡ set_at self.old.count self.old.present drive false }
     {
-        if drive >= self.count {
-            return false;
-        }
-        set_flag(&mut self.present, drive as usize, false);
-        true
+        self.set(drive, false)
     }
 
     // For each drive whether it is in.
@@ -123,13 +84,13 @@ impl Drives {
         ensures each { result.now ≡ take self.now.count self.now.present }
         ensures few { length result.now ≤ 32 }
     {
-        flags_below(&self.present, self.count as usize)
+        &self.present[..usize::from(self.count)]
     }
 
     // How many drives are in.
     pub fn how_many_in(&self) -> usize
         ensures { result ≡ how_many (take self.now.count self.now.present) }
     {
-        how_many_below(&self.present, self.count as usize)
+        how_many(self.flags())
     }
 }

@@ -5,7 +5,7 @@ ghost use Rattle.drives.specs.Place.{places, slot_at, readings};
 ghost use Rattle.drives.specs.View.{same, index_of, firsts, place_in, version_of, distinct};
 
 use crate::layout::{PLACES, slot_of};
-use slots::read;
+use slots::{Owner, read};
 
 // Whether two places have the same.
 fn is_same(x: Option<u64>, y: Option<u64>) -> bool
@@ -41,23 +41,23 @@ pub fn place_in(version: u64, versions: &[Option<u64>]) -> Option<usize>
 }
 
 // The version that the slot at a place has, whether or not it counts.
-fn version_at(drive: &[u8], object: u8, number: u8, place: usize) -> Option<u64>
+fn version_at(drive: &[u8], owner: Owner, place: usize) -> Option<u64>
     requires { place < places }
-    ensures { result ≡ version_of (read_slot object number (slot_at drive.now object place)) }
+    ensures { result ≡ version_of (read_slot owner.object owner.drive (slot_at drive.now owner.object place)) }
 {
-    match read(slot_of(drive, object, place), object, number) {
+    match read(slot_of(drive, owner.object, place), owner) {
         Some(held) => Some(held.version),
         None => None,
     }
 }
 
 // The versions at all places, whether or not they count.
-fn all_versions(drive: &[u8], object: u8, number: u8) -> [Option<u64>; PLACES]
-    ensures { result ≡ map version_of (readings drive.now object number) }
+fn all_versions(drive: &[u8], owner: Owner) -> [Option<u64>; PLACES]
+    ensures { result ≡ map version_of (readings drive.now owner.object owner.drive) }
 {
     let mut found = [None; PLACES];
     for place in 0..PLACES {
-        found[place] = version_at(drive, object, number, place);
+        found[place] = version_at(drive, owner, place);
     }
     found
 }
@@ -74,10 +74,10 @@ fn first_at(all: &[Option<u64>], place: usize) -> Option<u64>
 }
 
 // The versions that count of an object on a drive, place by place: what an earlier place has counts once.
-pub fn versions(drive: &[u8], object: u8, number: u8) -> [Option<u64>; PLACES]
-    ensures { result ≡ map version_of (distinct (readings drive.now object number)) }
+pub fn versions(drive: &[u8], owner: Owner) -> [Option<u64>; PLACES]
+    ensures { result ≡ map version_of (distinct (readings drive.now owner.object owner.drive)) }
 {
-    let all = all_versions(drive, object, number);
+    let all = all_versions(drive, owner);
     let mut counted = [None; PLACES];
     for place in 0..PLACES {
         counted[place] = first_at(&all, place);

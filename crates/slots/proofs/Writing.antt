@@ -45,17 +45,16 @@ unfolding written
 written_none o d v p bytes e = sym (cond-false (has_room bytes p) (record_of o d v p ++ drop (around + length p) bytes) bytes (sym e))
 
 -- The header, the piece and the sum put one behind the other are the record, before what lay behind it. `n` is the sum's place.
-pub written_put : (o d v n m sum : ℕ) (p s s₁ s₂ s₃ : List ℕ) → true ≡ has_room s p → n ≡ 15 + length p → m ≡ 15 + length p →
-    s₁ ≡ put_at s 0 (header_of o d v (length p)) → s₂ ≡ put_at s₁ 15 p → sum ≡ adler (take m s₂) → s₃ ≡ put_at s₂ n (bytes_of 4 sum) → s₃ ≡ written o d v p s
+pub written_put : (o d v n sum : ℕ) (p s s₁ s₂ s₃ : List ℕ) → true ≡ has_room s p → n ≡ 15 + length p →
+    s₁ ≡ put_at s 0 (header_of o d v (length p)) → s₂ ≡ put_at s₁ 15 p → sum ≡ adler (take n s₂) → s₃ ≡ put_at s₂ n (bytes_of 4 sum) → s₃ ≡ written o d v p s
 unfolding written record_of
-written_put o d v n m sum p s s₁ s₂ s₃ room en em e₁ e₂ es e₃ =
+written_put o d v n sum p s s₁ s₂ s₃ room en e₁ e₂ es e₃ =
     let head = header_of o d v (length p) in
     let body = body_of o d v p in
     let f₁ : s₁ ≡ head ++ drop 15 s = e₁ ∙ front_put s [] head 0 refl in
     let f₂ : s₂ ≡ body ++ drop (15 + length p) s = e₂ ∙ ap (λ l. put_at l 15 p) f₁ ∙ front_put s head p 15 refl in
     let long : length body ≡ n = length-append head p ∙ sym en in
-    let longer : length body ≡ m = length-append head p ∙ sym em in
-    let fs : sum ≡ adler body = es ∙ ap (λ l. adler (take m l)) f₂ ∙ ap adler (take_at body (drop (15 + length p) s) m longer) in
+    let fs : sum ≡ adler body = es ∙ ap (λ l. adler (take n l)) f₂ ∙ ap adler (take_at body (drop (15 + length p) s) n long) in
     let f₃ : s₃ ≡ put_at (body ++ drop n s) n (bytes_of 4 (adler body)) =
     e₃ ∙ ap (λ l. put_at l n (bytes_of 4 sum)) f₂ ∙ ap (λ i. put_at (body ++ drop i s) n (bytes_of 4 sum)) (sym en) ∙ ap (λ x. put_at (body ++ drop n s) n (bytes_of 4 x)) fs in
     let back : n + 4 ≡ around + length p = omega arith in

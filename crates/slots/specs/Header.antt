@@ -12,7 +12,7 @@ NoHeader bytes = (length bytes < 15) ⊎ (slice_index bytes 0 ≢ 87)
 pub record Names (bytes : List ℕ) (h : Header) : Type 0 where
   pub enough : 15 ≤ length bytes
   pub kind : slice_index_or bytes 0 0 ≡ 87
-  pub object : h.object ≡ slice_index bytes 1
-  pub drive : h.drive ≡ slice_index bytes 2
+  pub object : h.owner.object ≡ slice_index bytes 1
+  pub drive : h.owner.drive ≡ slice_index bytes 2
   pub version : h.version ≡ version_in bytes
   pub len : h.len ≡ length_in bytes

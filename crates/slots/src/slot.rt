@@ -22,6 +22,13 @@ const TRAILER: usize = 4;
 // The longest piece that a slot has room for.
 const PIECE: usize = SLOT - HEADER - TRAILER;
 
+// Whose piece a slot is for: an object's, on a drive.
+#[derive(Clone, Copy, PartialEq, Eq, Debug)]
+pub struct Owner {
+    pub object: u8,
+    pub drive: u8,
+}
+
 // What a slot holds: a piece, still in the slot's bytes, of a version.
 #[derive(Clone, Copy)]
 pub struct Held<'a> {
@@ -40,18 +47,13 @@ pub fn slot_len() -> usize
 pub fn record_len(piece: usize) -> Option<usize>
     ensures { result ≡ record_room piece }
 {
-    if piece <= PIECE {
-        Some(HEADER + piece + TRAILER)
-    } else {
-        None
-    }
+    (piece <= PIECE).then(|| HEADER + piece + TRAILER)
 }
 
 // What stands before a piece.
 #[derive(Clone, Copy)]
 struct Header {
-    object: u8,
-    drive: u8,
+    owner: Owner,
     version: u64,
     len: usize,
 }
@@ -84,51 +86,55 @@ fn read_header(slot: &[u8]) -> Option<Header>
     let version = u64::from_be_bytes([*v0, *v1, *v2, *v3, *v4, *v5, *v6, *v7]);
     let len = u32::from_be_bytes([*l0, *l1, *l2, *l3]) as usize;
     Some(Header {
-        object: *object,
-        drive: *drive,
+        owner: Owner {
+            object: *object,
+            drive: *drive,
+        },
         version,
         len,
     })
 }
 
-// The number that the four bytes from a place on spell.
-fn sum_at(slot: &[u8], at: usize) -> u32
-    requires { at + 4 ≤ length slot.now }
-    ensures { result ≡ number_at slot.now at 4 }
-{
-    u32::from_be_bytes([slot[at], slot[at + 1], slot[at + 2], slot[at + 3]])
-}
-
 // What a slot's bytes hold for an object and a drive. What doesn't fit, has a wrong sum, or is another object's or another drive's isn't there.
-pub fn read(slot: &[u8], object: u8, drive: u8) -> Option<Held<'_>>
-    ensures { reading result ≡ read_slot object drive slot.now }
+pub fn read(slot: &[u8], owner: Owner) -> Option<Held<'_>>
+    ensures { reading result ≡ read_slot owner.object owner.drive slot.now }
 {
-    let Some(header) = read_header(slot) else {
-        return None;
-    };
-    let Header {
-        object: o,
-        drive: d,
-        version,
-        len,
-    } = header;
-    if o != object || d != drive || len > PIECE || slot.len() < HEADER + len + TRAILER {
+    let header = read_header(slot)?;
+    if header.owner != owner || header.len > PIECE {
         return None;
     }
-    if sum_at(slot, HEADER + len) != adler(&slot[0..HEADER + len]) {
+    let (summed, behind) = slot.split_at_checked(HEADER + header.len)?;
+    let sum = behind.first_chunk::<TRAILER>()?;
+    if u32::from_be_bytes(*sum) != adler(summed) {
         return None;
     }
     Some(Held {
-        version,
-        piece: &slot[HEADER..HEADER + len],
+        version: header.version,
+        piece: &summed[HEADER..],
     })
 }
 
 // What stands before a piece, in bytes.
-fn header_bytes(object: u8, drive: u8, version: u64, len: u32) -> [u8; HEADER]
-    ensures { result ≡ header_of object drive version len }
+fn header_bytes(owner: Owner, version: u64, len: u32) -> [u8; HEADER]
+    ensures { result ≡ header_of owner.object owner.drive version len }
 {
-    let mut bytes = [KIND, object, drive, 0, 0, 0, 0, 0, 0, 0, 0, 0, 0, 0, 0];
+    let mut bytes = [
+        KIND,
+        owner.object,
+        owner.drive,
+        0,
+        0,
+        0,
+        0,
+        0,
+        0,
+        0,
+        0,
+        0,
+        0,
+        0,
+        0,
+    ];
     bytes[3..11].copy_from_slice(&version.to_be_bytes());
     bytes[11..15].copy_from_slice(&len.to_be_bytes());
     bytes
@@ -143,9 +149,9 @@ fn put(slot: &mut [u8], at: usize, field: &[u8])
 }
 
 // Writes a piece's record at the front of a slot's place, and leaves what lies behind it. Where the place, or a slot, has no room for it: false, and nothing changes.
-pub fn write(slot: &mut [u8], object: u8, drive: u8, version: u64, piece: &[u8]) -> bool
+pub fn write(slot: &mut [u8], owner: Owner, version: u64, piece: &[u8]) -> bool
     ensures answer { result ≡ has_room slot.old piece.now }
-    ensures after { slot.new ≡ written object drive version piece.now slot.old }
+    ensures after { slot.new ≡ written owner.object owner.drive version piece.now slot.old }
 {
     let Some(end) = record_len(piece.len()) else {
         return false;
@@ -153,45 +159,40 @@ pub fn write(slot: &mut [u8], object: u8, drive: u8, version: u64, piece: &[u8])
     if slot.len() < end {
         return false;
     }
-    put(
-        slot,
-        0,
-        &header_bytes(object, drive, version, piece.len() as u32),
-    );
+    put(slot, 0, &header_bytes(owner, version, piece.len() as u32));
     put(slot, HEADER, piece);
-    let sum = adler(&slot[0..end - TRAILER]);
+    let sum = adler(&slot[..end - TRAILER]);
     put(slot, end - TRAILER, &sum.to_be_bytes());
     true
 }
 
 // Takes away what a slot holds for an object and a drive: zeros over its whole record. False, and nothing changes, where it holds nothing.
-pub fn clear(slot: &mut [u8], object: u8, drive: u8) -> bool
-    ensures answer { result ≡ is_held (read_slot object drive slot.old) }
-    ensures after { slot.new ≡ cleared object drive slot.old }
+pub fn clear(slot: &mut [u8], owner: Owner) -> bool
+    ensures answer { result ≡ is_held (read_slot owner.object owner.drive slot.old) }
+    ensures after { slot.new ≡ cleared owner.object owner.drive slot.old }
 {
-    let end = match read(slot, object, drive) {
-        Some(held) => HEADER + held.piece.len() + TRAILER,
-        None => return false,
+    let Some(held) = read(slot, owner) else {
+        return false;
     };
-    slot[0..end].fill(0);
+    let end = HEADER + held.piece.len() + TRAILER;
+    slot[..end].fill(0);
     true
 }
 
 // A piece's record in bytes of its own; none where a slot has no room for it.
 pub fn encode(
     heap: Global,
-    object: u8,
-    drive: u8,
+    owner: Owner,
     version: u64,
     piece: &[u8],
 ) -> Result<Option<Vec<u8>>, AllocError>
-    ensures { IfOk result (λ v. option_map vec_items v ≡ record_for object drive version piece.now) }
+    ensures { IfOk result (λ v. option_map vec_items v ≡ record_for owner.object owner.drive version piece.now) }
 {
     let Some(len) = record_len(piece.len()) else {
         return Ok(None);
     };
     let mut bytes = Vec::with_capacity(heap, len)?;
-    bytes.extend_from_slice(&header_bytes(object, drive, version, piece.len() as u32))?;
+    bytes.extend_from_slice(&header_bytes(owner, version, piece.len() as u32))?;
     bytes.extend_from_slice(piece)?;
     let sum = adler(bytes.as_slice());
     bytes.extend_from_slice(&sum.to_be_bytes())?;

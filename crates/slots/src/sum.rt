@@ -14,15 +14,8 @@ pub fn adler(bytes: &[u8]) -> u32
 {
     let mut first = 1;
     let mut second = 0;
-    let mut at = 0;
-    while at < bytes.len() {
-        let end = if bytes.len() - at < BLOCK {
-            bytes.len()
-        } else {
-            at + BLOCK
-        };
-        (first, second) = add_block(first, second, &bytes[at..end]);
-        at = end;
+    for block in bytes.chunks(BLOCK) {
+        (first, second) = add_block(first, second, block);
     }
     second * 65_536 + first
 }

@@ -1,16 +1,17 @@
 // Runs of slots: Adler's sums of many inputs, to be compared with those of another implementation (tests/adler.sh), and every change of one byte of a written slot.
 #![tactic(auto)]
 
-use slots::{adler, read, write};
+use slots::{Owner, adler, read, write};
 use std::io;
 
 // How long an input may be: that of the longest record but for its sum, and a little more.
 const LONGEST: usize = 65_574;
 
-// The object, drive and version of the slot whose bytes are changed.
-const OBJECT: u8 = 3;
-
-const DRIVE: u8 = 1;
+// Whose slot it is whose bytes are changed, and its version.
+const OWNER: Owner = Owner {
+    object: 3,
+    drive: 1,
+};
 
 const VERSION: u64 = 1025;
 
@@ -60,7 +61,7 @@ fn found_at(slot: &mut [u8], place: usize) -> u32 {
         let old = slot[place];
         for value in 0..=255u8 {
             slot[place] = value;
-            if value != old && read(slot, OBJECT, DRIVE).is_none() {
+            if value != old && read(slot, OWNER).is_none() {
                 found = found.saturating_add(1);
             }
         }
@@ -72,7 +73,7 @@ fn found_at(slot: &mut [u8], place: usize) -> u32 {
 // Changes every byte of a slot with a record of 24 bytes and 8 bytes behind it, one at a time.
 fn changes(rt: &impl Print) -> io::Result<()> {
     let mut slot = [9u8; 32];
-    let written = write(&mut slot, OBJECT, DRIVE, VERSION, &[5, 7, 0, 255, 9]);
+    let written = write(&mut slot, OWNER, VERSION, &[5, 7, 0, 255, 9]);
     println!(rt; "written {written}")?;
     let mut within: u32 = 0;
     let mut behind: u32 = 0;

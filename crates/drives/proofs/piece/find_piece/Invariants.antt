@@ -5,4 +5,4 @@ use Rattle.drives.proofs.piece.find_piece.Given as goal
 
 abbrev pub invariant-loop-place : goal.invariant-loop-place
 invariant-loop-place l =
-    find l.version (readings l.drive l.object l.number) ≡ find l.version (drop l.place (readings l.drive l.object l.number))
+    find l.version (readings l.drive l.owner.object l.owner.drive) ≡ find l.version (drop l.place (readings l.drive l.owner.object l.owner.drive))

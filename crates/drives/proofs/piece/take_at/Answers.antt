@@ -9,8 +9,8 @@ use Rattle.drives.proofs.piece.take_at.Goals as goal
 pub returns : goal.returns
 returns c =
     let bytes = c.args.drive.now in
-    let o = c.args.object in
-    let d = c.args.number in
+    let o = c.args.owner.object in
+    let d = c.args.owner.drive in
     let k = c.args.place in
     let e = c.bounds-from.ensures.0 in
     let f = c.bounds-from.ensures.1 in

@@ -16,8 +16,8 @@ loop-place-init c = (refl, refl, omega arith)
 pub loop-place-preserved : goal.loop-place-preserved
 loop-place-preserved c =
     let bytes = c.args.drive.now in
-    let o = c.args.object in
-    let d = c.args.number in
+    let o = c.args.owner.object in
+    let d = c.args.owner.drive in
     let i = c.loop-place.place in
     let rule = c.args.rule in
     let inv = c.loop-place.invariant in
@@ -32,11 +32,11 @@ loop-place-preserved c =
 pub returns : goal.returns
 returns c =
     let bytes = c.args.drive.now in
-    let ss = readings bytes c.args.object c.args.number in
+    let ss = readings bytes c.args.owner.object c.args.owner.drive in
     let inv = c.loop-place.invariant in
     let four : c.loop-place.place ≡ 4 = omega (arith, c.loop-place.auto.place-end, c.loop-place-test.false) in
-    let long = length_readings bytes c.args.object c.args.number in
+    let long = length_readings bytes c.args.owner.object c.args.owner.drive in
     record {
       answer = inv.1 ∙ ap (count_by (names_slot c.args.rule)) (take_all c.loop-place.place ss (omega arith));
-      after = inv.0 ∙ ap (λ n. taken_below n bytes c.args.object c.args.number c.args.rule) four;
+      after = inv.0 ∙ ap (λ n. taken_below n bytes c.args.owner.object c.args.owner.drive c.args.rule) four;
     }

@@ -6,5 +6,5 @@ use Rattle.drives.proofs.piece.take_away.Given as goal
 
 abbrev pub invariant-loop-place : goal.invariant-loop-place
 invariant-loop-place l =
-    (l.drive ≡ taken_below l.place l.initial.drive l.object l.number l.rule) ×
-    (l.gone ≡ count_by (names_slot l.rule) (take l.place (readings l.initial.drive l.object l.number))) × (l.gone ≤ l.place)
+    (l.drive ≡ taken_below l.place l.initial.drive l.owner.object l.owner.drive l.rule) ×
+    (l.gone ≡ count_by (names_slot l.rule) (take l.place (readings l.initial.drive l.owner.object l.owner.drive))) × (l.gone ≤ l.place)

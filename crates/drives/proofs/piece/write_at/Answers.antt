@@ -7,7 +7,7 @@ use Rattle.drives.proofs.piece.write_at.Goals as goal
 pub returns : goal.returns
 returns c =
     let bytes = c.args.drive.now in
-    let o = c.args.object in
+    let o = c.args.owner.object in
     let p = c.args.piece.now in
     let e = c.bounds-from.ensures.0 in
     let f = c.bounds-from.ensures.1 in
@@ -15,6 +15,6 @@ returns c =
     record {
       answer = c.write.ensures.answer ∙ ap (λ s. has_room s p) cut;
       after =
-          slot_put bytes c.write.new.slot (written o c.args.number c.args.version p (slot_at bytes o c.args.place)) o c.args.place
-          c.bounds-from.result.0 c.bounds-from.result.1 e f (c.write.ensures.after ∙ ap (written o c.args.number c.args.version p) cut);
+          slot_put bytes c.write.new.slot (written o c.args.owner.drive c.args.version p (slot_at bytes o c.args.place)) o c.args.place
+          c.bounds-from.result.0 c.bounds-from.result.1 e f (c.write.ensures.after ∙ ap (written o c.args.owner.drive c.args.version p) cut);
     }

@@ -5,4 +5,4 @@ use Rattle.drives.specs.View.{version_of}
 use Rattle.drives.proofs.view.all_versions.Given as goal
 
 abbrev pub invariant-loop-place : goal.invariant-loop-place
-invariant-loop-place l = (length l.found ≡ 4) × ((k : ℕ) → k < l.place → get_or l.found k None ≡ version_of (read_slot l.object l.number (slot_at l.drive l.object k)))
+invariant-loop-place l = (length l.found ≡ 4) × ((k : ℕ) → k < l.place → get_or l.found k None ≡ version_of (read_slot l.owner.object l.owner.drive (slot_at l.drive l.owner.object k)))

@@ -12,5 +12,5 @@ returns c =
     let head = pushed c.header_bytes.result c.in_ok-bytes.ensures.items c.in_ok-extend_from_slice.was c.extend_from_slice.ensures.items in
     let body = pushed p head c.in_ok-extend_from_slice-2.was c.extend_from_slice-2.ensures.items in
     let all = pushed c.to_be_bytes.result body c.in_ok-extend_from_slice-3.was c.extend_from_slice-3.ensures.items in
-    encoded c.args.object c.args.drive c.args.version c.adler-sum.result p c.header_bytes.result c.to_be_bytes.result _ room.0
+    encoded c.args.owner.object c.args.owner.drive c.args.version c.adler-sum.result p c.header_bytes.result c.to_be_bytes.result _ room.0
     c.header_bytes.ensures (c.adler-sum.ensures ∙ ap adler (c.as_slice.ensures.value ∙ body)) (c.to_be_bytes.ensures ∙ bytes4 c.adler-sum.result) all

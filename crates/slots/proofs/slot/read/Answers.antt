@@ -1,48 +1,64 @@
-use Rattle.std.proofs.Common.{◌≡◌, ◌+◌, ◌-◌, take, drop, sym, ap, ◌∙◌, inl, inr, arith}
+use Rattle.std.proofs.Common.{◌≡◌, ◌+◌, ◌-◌, ◌≤◌, length, take, drop, sym, ap, ◌∙◌, inl, inr, arith}
+use Rattle.std.proofs.lemmas.Bool.Decides.{nat_tests}
+use Rattle.std.proofs.lemmas.List.{take_all, length-drop, drop-take}
 use Rattle.slots.specs.Adler.{adler}
-use Rattle.slots.specs.Layout.{number_at}
-use Rattle.slots.specs.Slot.{holds, length_in}
-use Rattle.slots.proofs.Reading.{misfit, fit}
+use Rattle.slots.specs.Slot.{reading, holds, version_in}
+use Rattle.slots.proofs.Reading.{misfit, fit, sum_behind}
 use Rattle.slots.proofs.slot.read.Goals as goal
-use Rattle.slots.proofs.slot.read.Goals.{then-o-object-via-then-o-object, then-o-object-via-else-o-object+then-d-drive, then-o-object-via-else-o-object+else-d-drive+then-len-gt-PIECE, then-o-object-via-else-o-object+else-d-drive+else-len-gt-PIECE+then-slot-len}
 
-pub returns-in_default : goal.returns-in_default
-returns-in_default c =
-    misfit c.args.object c.args.drive c.args.slot.now (λ h.
-    let none = c.in_default.ensures in elim none [ inl short ↦ omega (arith, h.whole) | inr other ↦ other h.kind ])
+pub returns-in_err-header : goal.returns-in_err-header
+returns-in_err-header c =
+    ap reading c.from_residual.ensures
+    ∙ misfit c.args.owner.object c.args.owner.drive c.args.slot.now (λ h.
+    let none = c.in_err-header.ensures in elim none [ inl short ↦ omega (arith, h.whole) | inr other ↦ other h.kind ])
 
-pub returns-then-o-object : goal.returns-then-o-object
-returns-then-o-object c =
-    misfit c.args.object c.args.drive c.args.slot.now (λ h.
-    let names = c.in-Some.ensures in
-    elim c.then-o-object.branch [
-      | then-o-object-via-then-o-object w ↦ w.if-o-object.true (names.object ∙ h.object)
-      | then-o-object-via-else-o-object+then-d-drive w ↦ w.if-d-drive.true (names.drive ∙ h.drive)
-      | then-o-object-via-else-o-object+else-d-drive+then-len-gt-PIECE w ↦ omega (arith, h.room, names.len, w.if-len-gt-PIECE.true)
-      | then-o-object-via-else-o-object+else-d-drive+else-len-gt-PIECE+then-slot-len w ↦ omega (arith, h.whole, names.len, w.if-slot-len.true)
-    ])
+pub returns-then-ne : goal.returns-then-ne
+returns-then-ne c =
+    misfit c.args.owner.object c.args.owner.drive c.args.slot.now (λ h.
+    let names = c.in_ok-header.ensures in grind (arith, nat_tests))
 
-pub returns-then-sum_at-adler : goal.returns-then-sum_at-adler
-returns-then-sum_at-adler c =
-    misfit c.args.object c.args.drive c.args.slot.now (λ h.
-    let len = c.in-Some.ensures.len in
-    let same : 15 + c.in-Some.header.len - 0 ≡ 15 + length_in c.args.slot.now = omega arith in
-    c.if-sum_at-adler.true
-    (c.sum_at.ensures ∙ ap (λ n. number_at c.args.slot.now (15 + n) 4) len ∙ h.sum
-    ∙ ap (λ n. adler (take n c.args.slot.now)) (sym same) ∙ sym c.adler.ensures))
+pub returns-in_err-summed : goal.returns-in_err-summed
+returns-in_err-summed c =
+    ap reading c.from_residual-in_err-summed.ensures
+    ∙ misfit c.args.owner.object c.args.owner.drive c.args.slot.now (λ h.
+    let names = c.in_ok-header.ensures in let short = c.in_err-summed.ensures.cases in omega (arith, h.whole, names.len))
+
+pub returns-in_err-sum : goal.returns-in_err-sum
+returns-in_err-sum c =
+    ap reading c.from_residual-in_err-sum.ensures
+    ∙ misfit c.args.owner.object c.args.owner.drive c.args.slot.now (λ h.
+    let names = c.in_ok-header.ensures in let short = c.in_err-sum.ensures.cases in let parts = c.in_ok-summed.ensures.cases in omega (arith, h.whole, names.len, parts))
+
+pub returns-then-from_be_bytes-adler : goal.returns-then-from_be_bytes-adler
+returns-then-from_be_bytes-adler c =
+    misfit c.args.owner.object c.args.owner.drive c.args.slot.now (λ h.
+    let bytes = c.args.slot.now in
+    let names = c.in_ok-header.ensures in
+    let parts = c.in_ok-summed.ensures.cases in
+    let len = ap (λ n. 15 + n) names.len in
+    c.if-from_be_bytes-adler.true
+    (sum_behind bytes c.in_ok-sum.sum.now (15 + c.in_ok-header.header.len) c.from_be_bytes.result len (c.in_ok-sum.ensures.cases.same ∙ ap (take 4) parts.2) c.from_be_bytes.ensures
+    ∙ h.sum ∙ ap (λ n. adler (take n bytes)) (sym len) ∙ ap adler (sym parts.1) ∙ sym c.adler.ensures))
 
 pub returns : goal.returns
 returns c =
     let bytes = c.args.slot.now in
-    let names = c.in-Some.ensures in
-    let same : 15 + c.in-Some.header.len - 0 ≡ 15 + length_in c.args.slot.now = omega (arith, names.len) in
-    let less : 15 + c.in-Some.header.len - 15 ≡ length_in c.args.slot.now = omega (arith, names.len) in
-    ap (λ v. holds v (take (15 + c.in-Some.header.len - 15) (drop 15 bytes))) names.version ∙ ap (λ n. holds (number_at bytes 3 8) (take n (drop 15 bytes))) less
-    ∙ fit c.args.object c.args.drive bytes (record {
-      whole = omega (arith, names.len);
+    let header = c.in_ok-header.header in
+    let names = c.in_ok-header.ensures in
+    let parts = c.in_ok-summed.ensures.cases in
+    let len = ap (λ n. 15 + n) names.len in
+    let long : length c.in_ok-summed.summed.now - 15 ≡ header.len = omega (arith, parts) in
+    let kept : length (drop 15 c.in_ok-summed.summed.now) ≤ length c.in_ok-summed.summed.now - 15 = omega (arith, length-drop 15 c.in_ok-summed.summed.now) in
+    let own : (header.owner.object ≡ c.args.owner.object) × (header.owner.drive ≡ c.args.owner.drive) = grind (arith, nat_tests) in
+    ap (λ v. holds v (take (length c.in_ok-summed.summed.now - 15) (drop 15 c.in_ok-summed.summed.now))) names.version
+    ∙ ap (holds (version_in bytes)) (take_all _ _ kept ∙ ap (drop 15) parts.1 ∙ drop-take 15 header.len bytes ∙ ap (λ n. take n (drop 15 bytes)) names.len)
+    ∙ fit c.args.owner.object c.args.owner.drive bytes (record {
+      whole = omega (arith, names.len, parts, c.in_ok-sum.ensures.cases.enough);
       room = omega (arith, names.len);
       kind = names.kind;
-      object = sym names.object ∙ c.if-o-object.false;
-      drive = sym names.drive ∙ c.if-d-drive.false;
-      sum = ap (λ n. number_at bytes (15 + n) 4) (sym names.len) ∙ sym c.sum_at.ensures ∙ c.if-sum_at-adler.false ∙ c.adler.ensures ∙ ap (λ n. adler (take n bytes)) same;
+      object = sym names.object ∙ own.0;
+      drive = sym names.drive ∙ own.1;
+      sum =
+          sym (sum_behind bytes c.in_ok-sum.sum.now (15 + header.len) c.from_be_bytes.result len (c.in_ok-sum.ensures.cases.same ∙ ap (take 4) parts.2) c.from_be_bytes.ensures)
+          ∙ c.if-from_be_bytes-adler.false ∙ c.adler.ensures ∙ ap adler parts.1 ∙ ap (λ n. adler (take n bytes)) len;
     })
