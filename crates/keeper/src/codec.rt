@@ -10,6 +10,7 @@ use crate::object::Entry;
 use crate::readings::is_copy;
 use crate::writing::Content;
 use pieces::{Piece, PieceError};
+use slots::Owner;
 use std::alloc::{AllocError, Global};
 
 // How an object's pieces are made, written and worked out: which object it is, and how many pieces give it back.
@@ -36,7 +37,11 @@ impl Codec {
         let Ok(piece) = pieces::make(heap, self.need, drive, content.bytes.as_slice()) else {
             return Err(AllocError);
         };
-        match slots::encode(heap, self.object, drive, version, piece.as_slice())? {
+        let owner = Owner {
+            object: self.object,
+            drive,
+        };
+        match slots::encode(heap, owner, version, piece.as_slice())? {
             Some(record) => Ok(record),
             None => unreachable(),
         }

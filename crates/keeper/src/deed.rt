@@ -9,9 +9,9 @@ use std::alloc::Global;
 
 // What is told and done by a step that leaves the object's state as it is.
 #[derive(Drop)]
-pub struct Deed {
-    pub answer: Answer,
-    pub effects: Vec<Effect>,
+pub(crate) struct Deed {
+    pub(crate) answer: Answer,
+    pub(crate) effects: Vec<Effect>,
 }
 
 impl Deed {
@@ -38,7 +38,7 @@ pub fn refuse(heap: Global, object: Object, why: Refusal) -> Step
 }
 
 // The step as it was planned, or refused.
-pub fn changing(heap: Global, object: Object, planned: Result<Step, Refusal>) -> Step
+pub(crate) fn changing(heap: Global, object: Object, planned: Result<Step, Refusal>) -> Step
     ensures { outcome_of result ≡ planned_outcome (state_of object) planned }
 {
     match planned {
@@ -48,7 +48,7 @@ pub fn changing(heap: Global, object: Object, planned: Result<Step, Refusal>) ->
 }
 
 // The same of a step that leaves the object's state.
-pub fn leaving(heap: Global, object: Object, planned: Result<Deed, Refusal>) -> Step
+pub(crate) fn leaving(heap: Global, object: Object, planned: Result<Deed, Refusal>) -> Step
     ensures { outcome_of result ≡ deed_outcome (state_of object) planned }
 {
     match planned {

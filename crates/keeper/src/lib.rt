@@ -4,7 +4,7 @@
 mod clearing;
 pub mod codec;
 mod content;
-pub mod deed;
+mod deed;
 mod found;
 pub mod object;
 pub mod placing;

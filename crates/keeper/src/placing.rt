@@ -46,7 +46,13 @@ fn place(
 ) -> Result<Deed, AllocError>
     ensures { IfOk result (λ d. (reply_of d.answer ≡ reply_of answer) × (map act_of d.effects.items ≡ write_slot drive place bytes.items ∷ [])) }
 {
-    let effects = vec![in heap; Effect::Write { drive, place, bytes }]?;
+    let effects = vec![in heap;
+        Effect::Write {
+            drive,
+            place,
+            bytes
+        },
+    ]?;
     Ok(Deed { answer, effects })
 }
 

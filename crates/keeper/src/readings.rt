@@ -7,7 +7,7 @@ ghost use Rattle.keeper.specs.Readings.{is_of, holder as holder_of, precedes, co
 use crate::object::Entry;
 
 // How many places a drive has for an object.
-const PLACES: u8 = 4;
+const PLACES: u8 = drives::PLACES as u8;
 
 fn is_of(entry: &Entry, drive: u8, version: u64) -> bool
     ensures { result ≡ is_of drive version (reading_of entry.now) }
@@ -33,9 +33,7 @@ fn counts_at(entries: &[Entry], drive: u8, place: u8, entry: &Entry) -> bool
 pub fn is_holder(entries: &[Entry], drive: u8, version: u64) -> bool
     ensures { result ≡ holder_of drive version (readings_of entries.now) }
 {
-    entries
-        .iter()
-        .any(|entry| is_of(entry, drive, version))
+    entries.iter().any(|entry| is_of(entry, drive, version))
 }
 
 // Whether a lower place of the same drive has the same version, so that the place of this one counts as free.
@@ -58,7 +56,7 @@ fn is_taken(entries: &[Entry], drive: u8, place: u8) -> bool
 pub fn how_many_in(present: &[bool]) -> usize
     ensures { result ≡ how_many_in (length present.now) (λ d. slice_index_or present.now d false) }
 {
-    present.iter().filter(|is_in| **is_in).count()
+    drives::how_many(present)
 }
 
 // Whether all drives that are in have the version.
@@ -84,9 +82,7 @@ fn is_out_or_holder(entries: &[Entry], is_in: bool, drive: u8, version: u64) -> 
 fn own_place(entries: &[Entry], drive: u8, version: u64) -> Option<u8>
     ensures { result ≡ own_place drive version (readings_of entries.now) }
 {
-    let own = entries
-        .iter()
-        .find(|entry| is_of(entry, drive, version))?;
+    let own = entries.iter().find(|entry| is_of(entry, drive, version))?;
     Some(own.place)
 }
 

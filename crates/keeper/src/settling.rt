@@ -109,12 +109,12 @@ fn settle_on(
 }
 
 // Nothing was found: the object counts 0, and the next number, used up by that, is its bar.
-fn settle_none(view: View<'_>, object: &Object, used: Numbers) -> Result<Step, AllocError>
-    requires { Used object.now.numbers (Ok used) }
+fn settle_none(view: View<'_>, object: &Object, after: Numbers) -> Result<Step, AllocError>
+    requires { Used object.now.numbers (Ok after) }
     ensures { IfOk result (λ step. outcome_of step ≡ settling_on (state_of object.now) (readings_of view.entry.entries.now) None) }
 {
     let bar = object.numbers.next;
-    let number = used.file;
+    let number = after.file;
     let effects = vec![in view.heap; Effect::Replace { number, bar }]?;
     Ok(Step {
         answer: Ok(Answer::Nothing),
@@ -122,7 +122,7 @@ fn settle_none(view: View<'_>, object: &Object, used: Numbers) -> Result<Step, A
         object: Object {
             known: Known::Counts(0),
             bar,
-            numbers: used,
+            numbers: after,
         },
     })
 }

@@ -6,6 +6,7 @@ ghost use Rattle.keeper.specs.Shown.{state_of, outcome_of, planned_outcome, deed
 ghost use Rattle.keeper.specs.Steps.{begin as begin_of, raised, reserve as reserve_of, finish as finish_of, take_away, tidy as tidy_of, sweep as sweep_of, give_up};
 
 use crate::clearing::{Rule, clears};
+pub use crate::deed::refuse;
 use crate::deed::{Deed, changing, leaving};
 use crate::object::{Answer, Effect, Known, Numbers, Object, Step};
 use crate::readings::{all_have, how_many_in};
