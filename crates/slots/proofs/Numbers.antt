@@ -1,8 +1,8 @@
 -- Numbers in bytes, the highest first: written and read again, and read of a front.
-use Rattle.std.proofs.Common.{◌≡◌, ℕ, zero, suc, ◌+◌, ◌*◌, ◌/◌, ◌%◌, ◌^◌, ◌<◌, ◌≤◌, List, [], ◌∷◌, ◌++◌, length, get_or, take, sym, refl, ap, ◌∙◌, add-zero, mod-eq_of_lt, mul_assoc, pow-suc, div-one, arith}
+use Rattle.std.proofs.Common.{◌≡◌, ℕ, zero, suc, ◌+◌, ◌*◌, ◌/◌, ◌%◌, ◌^◌, ◌<◌, ◌≤◌, List, [], ◌∷◌, ◌++◌, length, get_or, take, drop, sym, refl, ap, ◌∙◌, add-zero, mod-eq_of_lt, mul_assoc, pow-suc, div-one, arith}
 use native.Mathlib.Nat.{pow-succ', mod-one}
 use lib.Arith.{mod-mul}
-use Rattle.std.proofs.lemmas.List.{append_assoc, get_or_at, get_or-take, length_push}
+use Rattle.std.proofs.lemmas.List.{append_assoc, get_or_at, get_or-take, get_or-drop, length_push}
 use Rattle.slots.specs.Layout.{bytes_of, number_at}
 
 -- What `to_be_bytes` gives, at the two widths of a record.
@@ -48,3 +48,19 @@ number_at_take zero n from bytes h = refl
 number_at_take (suc k) n from bytes h =
     let above = number_at_take k n from bytes (omega arith) in
     let last = get_or-take n bytes (from + k) 0 (omega arith) in omega arith
+
+-- What `from_be_bytes` gives of the four or eight bytes from a place on is the number that they spell.
+pub four_at : (bytes four : List ℕ) (n v : ℕ) → four ≡ take 4 (drop n bytes) →
+    v ≡ get_or four 0 0 * 16777216 + get_or four 1 0 * 65536 + get_or four 2 0 * 256 + get_or four 3 0 → v ≡ number_at bytes n 4
+four_at bytes four n v same e =
+    let byte : (k : ℕ) → k < 4 → get_or four k 0 ≡ get_or bytes (n + k) 0 = λ k h.
+    ap (λ l. get_or l k 0) same ∙ get_or-take 4 (drop n bytes) k 0 h ∙ get_or-drop n bytes k 0 in
+    omega (arith, byte 0 (omega arith), byte 1 (omega arith), byte 2 (omega arith), byte 3 (omega arith))
+
+pub eight_at : (bytes eight : List ℕ) (n v : ℕ) → eight ≡ take 8 (drop n bytes) →
+    v ≡ get_or eight 0 0 * 72057594037927936 + get_or eight 1 0 * 281474976710656 + get_or eight 2 0 * 1099511627776 + get_or eight 3 0 * 4294967296
+    + get_or eight 4 0 * 16777216 + get_or eight 5 0 * 65536 + get_or eight 6 0 * 256 + get_or eight 7 0 → v ≡ number_at bytes n 8
+eight_at bytes eight n v same e =
+    let byte : (k : ℕ) → k < 8 → get_or eight k 0 ≡ get_or bytes (n + k) 0 = λ k h.
+    ap (λ l. get_or l k 0) same ∙ get_or-take 8 (drop n bytes) k 0 h ∙ get_or-drop n bytes k 0 in
+    omega (arith, byte 0 (omega arith), byte 1 (omega arith), byte 2 (omega arith), byte 3 (omega arith), byte 4 (omega arith), byte 5 (omega arith), byte 6 (omega arith), byte 7 (omega arith))

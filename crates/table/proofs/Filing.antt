@@ -1,9 +1,11 @@
 -- The keeper's file: written number by number, and read again.
-use Rattle.std.proofs.Common.{◌≡◌, ℕ, zero, suc, ◌+◌, ◌*◌, ◌^◌, ◌<◌, ◌≤◌, true, eqb, List, [], ◌∷◌, ◌++◌, length, get_or, take, drop, Some, None, sym, refl, ap, ◌∙◌, add-one, arith}
+use Rattle.std.proofs.Common.{◌≡◌, ℕ, zero, suc, ◌+◌, ◌*◌, ◌^◌, ◌<◌, ◌≤◌, true, false, List, [], ◌∷◌, ◌++◌, length, get_or, take, drop, Some, None, inl, inr, sym, refl, ap, ◌∙◌, add-one, arith}
 use Rattle.std.proofs.ByRecursion.{All-get_or}
-use Rattle.std.proofs.lemmas.List.{append_assoc, append-nil, length-append, take-append-drop, take_at, take_more, take_all, drop_more, drop_all, length-take-le}
-use Rattle.std.proofs.lemmas.Bool.{eq-eqb, and_from, cond-true}
+use Rattle.std.proofs.lemmas.List.{append_assoc, append-nil, length-append, take-append-drop, take_at, take_more, take_all, drop_more, drop_all, drop-drop, length-take-le}
+use Rattle.std.proofs.lemmas.Bool.{cases_Bool, cond-true}
+use Rattle.std.proofs.lemmas.Bool.Decides.{nat_tests}
 use Rattle.std.specs.List.{AllByRecursion}
+use Rattle.std.specs.Simd.{first_chunks}
 use Rattle.slots.proofs.Adding.{adler_lt}
 use Rattle.slots.proofs.Numbers.{number_at_whole}
 use Rattle.slots.specs.Adler.{adler}
@@ -31,6 +33,24 @@ pub file_made : (number : ℕ) (bars page tail items : List ℕ) (sum : ℕ) →
 unfolding file_of
 file_made number bars page tail items sum ep es et e =
     e ∙ ap (λ p. p ++ tail) ep ∙ ap (λ t. page_of number bars ++ t) (et ∙ ap (λ s. bytes_of 4 s) (es ∙ ap adler ep))
+
+-- What decides that bytes are a file.
+pub is_file_true : (bytes : List ℕ) → length bytes ≡ 2060 → number_at bytes 2056 4 ≡ adler (take 2056 bytes) → is_file bytes ≡ true
+is_file_true bytes h e = grind (arith, nat_tests)
+
+pub is_file_not : (bytes : List ℕ) → (number_at bytes 2056 4 ≡ adler (take 2056 bytes) → ⊥) → is_file bytes ≡ false
+is_file_not bytes never =
+    elim (cases_Bool (is_file bytes)) [
+      | inl t ↦ (let e : number_at bytes 2056 4 ≡ adler (take 2056 bytes) = grind (arith, nat_tests) in absurd (never e))
+      | inr f ↦ f
+    ]
+
+-- The chunks of a slice are its parts.
+pub chunk_at : (count k : ℕ) (xs : List ℕ) (d : List ℕ) → k < count → get_or (first_chunks 8 count xs) k d ≡ take 8 (drop (k * 8) xs)
+chunk_at zero k xs d h = absurd (omega arith)
+chunk_at (suc c) zero xs d h = refl
+chunk_at (suc c) (suc k) xs d h =
+    chunk_at c k (drop 8 xs) d (omega arith) ∙ ap (take 8) (drop-drop (k * 8) 8 xs) ∙ ap (λ n. take 8 (drop n xs)) (let n : 8 + k * 8 ≡ suc k * 8 = omega arith in n)
 
 -- A loop that reads the bars.
 pub bars_none : (bytes : List ℕ) → bars_in 0 bytes ≡ []
@@ -94,7 +114,7 @@ file_reads number bars n small many =
     let sum : number_at bytes 2056 4 ≡ adler page = number_at_whole 4 (adler page) 2056 page [] long (adler_lt page) in
     let front : take 2056 bytes ≡ page = take_at page tail 2056 long in
     let right : is_file bytes ≡ true =
-    and_from (eqb (length bytes) 2060) (eqb (number_at bytes 2056 4) (adler (take 2056 bytes))) (eq-eqb (length bytes) 2060 whole) (eq-eqb (number_at bytes 2056 4) (adler (take 2056 bytes)) (sum ∙ sym (ap adler front))) in
+    is_file_true bytes whole (sum ∙ sym (ap adler front)) in
     let first : number_at bytes 0 8 ≡ number = word_read all tail 0 (omega arith) fits in
     let bars-are : bars_in 256 bytes ≡ bars = bars_read number bars tail 256 (omega arith) fits ∙ take_all 256 bars (omega arith) in
     cond-true (is_file bytes) (Some (number_at bytes 0 8, bars_in 256 bytes)) None right

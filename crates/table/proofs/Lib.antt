@@ -1,3 +1,2 @@
 pub mod Filing
-pub mod Rows
 pub mod Standing

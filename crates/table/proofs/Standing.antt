@@ -17,16 +17,16 @@ same_state s t k b n m =
 
 stands : TableStands
 stands before after o s h a =
-    let many : o < length (knowledge before) = let e = length-map (vec_items before.known) known_of in omega arith in
-    let bars : o < length (bars_of before) = omega arith in
+    let many : o < length (knowledge before) = let e = length-map (vec_items before.rows) (λ r. known_of r.known) in omega (arith, before.objects, before.rows.ok.0) in
+    let bars : o < length (bars_of before) = let e = length-map (vec_items before.rows) (λ r. r.bar) in omega (arith, before.objects, before.rows.ok.0) in
     let low = lt-ltb o objects h in
     record {
       there =
           same_state (state_at after o) s
           (ap (λ ks. get_or ks o unsure) a.known ∙ get_or-set_same (knowledge before) o s.known unsure many)
           (ap (λ bs. get_or bs o 0) a.bars ∙ get_or-set_same (bars_of before) o s.bar 0 bars)
-          (a.next ∙ cond-true (ltb o objects) s.next before.next low)
-          (a.number ∙ cond-true (ltb o objects) s.number before.number low);
+          (a.next ∙ cond-true (ltb o objects) s.next before.numbers.next low)
+          (a.number ∙ cond-true (ltb o objects) s.number before.numbers.file low);
       others = λ p ne. (
         ap (λ ks. get_or ks p unsure) a.known ∙ get_or-set_other (knowledge before) o p s.known unsure ne,
         ap (λ bs. get_or bs p 0) a.bars ∙ get_or-set_other (bars_of before) o p s.bar 0 ne,

@@ -14,14 +14,14 @@ use Rattle.keeper.specs.Steps.{unless}
 
 -- What is known of each object, and the bars.
 abbrev pub knowledge : Keeper → List Knowledge
-knowledge k = map known_of (vec_items k.known)
+knowledge k = map (λ r. known_of r.known) (vec_items k.rows)
 
 abbrev pub bars_of : Keeper → List ℕ
-bars_of k = vec_items k.bars
+bars_of k = map (λ r. r.bar) (vec_items k.rows)
 
 -- The state of an object, with the numbers that all objects share.
 abbrev pub state_at : Keeper → ℕ → State
-state_at k o = record { known = slice_index_or (knowledge k) o unsure; bar = slice_index (bars_of k) o; next = k.next; number = k.number }
+state_at k o = record { known = slice_index_or (knowledge k) o unsure; bar = slice_index (bars_of k) o; next = k.numbers.next; number = k.numbers.file }
 
 -- For each drive whether it is in; and the drives as the steps take them.
 abbrev pub flags_of : Drives → List Bool
@@ -40,8 +40,8 @@ pub record Lent (before after : Keeper) (o : ℕ) : Type 0 where
   pub drives : after.drives ≡ before.drives
   pub known : knowledge after ≡ slice_set (knowledge before) o unsure
   pub bars : bars_of after ≡ bars_of before
-  pub next : after.next ≡ before.next
-  pub number : after.number ≡ before.number
+  pub next : after.numbers.next ≡ before.numbers.next
+  pub number : after.numbers.file ≡ before.numbers.file
 
 -- The object's state stands in the table again, and with it the numbers; nothing changes where there is no such object.
 pub record Accepted (before after : Keeper) (o : ℕ) (s : State) : Type 0 where
@@ -49,8 +49,8 @@ pub record Accepted (before after : Keeper) (o : ℕ) (s : State) : Type 0 where
   pub drives : after.drives ≡ before.drives
   pub known : knowledge after ≡ slice_set (knowledge before) o s.known
   pub bars : bars_of after ≡ slice_set (bars_of before) o s.bar
-  pub next : after.next ≡ cond (nat_lt o objects) s.next before.next
-  pub number : after.number ≡ cond (nat_lt o objects) s.number before.number
+  pub next : after.numbers.next ≡ cond (nat_lt o objects) s.next before.numbers.next
+  pub number : after.numbers.file ≡ cond (nat_lt o objects) s.number before.numbers.file
 
 -- Only which drives are in has changed.
 pub record Moved (before after : Keeper) : Type 0 where
@@ -58,8 +58,8 @@ pub record Moved (before after : Keeper) : Type 0 where
   pub count : after.drives.count ≡ before.drives.count
   pub known : knowledge after ≡ knowledge before
   pub bars : bars_of after ≡ bars_of before
-  pub next : after.next ≡ before.next
-  pub number : after.number ≡ before.number
+  pub next : after.numbers.next ≡ before.numbers.next
+  pub number : after.numbers.file ≡ before.numbers.file
 
 -- The version that an object counts, if that is known.
 abbrev pub counted_of : Knowledge → Option ℕ
@@ -83,20 +83,12 @@ pub record First (n need : ℕ) (k : Keeper) : Type 0 where
   pub needs : k.need ≡ need
   pub known : knowledge k ≡ replicate objects (counts 0)
   pub bars : bars_of k ≡ replicate objects 0
-  pub next : k.next ≡ 1
-  pub number : k.number ≡ 1
+  pub next : k.numbers.next ≡ 1
+  pub number : k.numbers.file ≡ 1
 
 -- What coming up with a file takes from it: its number and its bars. The lowest number of a refusal wins.
 abbrev pub coming_up : (n need : ℕ) → List ℕ → Result (ℕ × List ℕ) Refusal
 coming_up n need bytes = cond (may_need n need) (ok_or (read_file bytes) BadFile) (Err NoSuch)
-
--- A keeper that came up: every object is unsure, and the next number is the file's, which is above every number used.
-pub record Up (ds : Drives) (need : ℕ) (bytes : List ℕ) (k : Keeper) : Type 0 where
-  pub drives : k.drives ≡ ds
-  pub needs : k.need ≡ need
-  pub known : knowledge k ≡ replicate objects unsure
-  pub taken : coming_up ds.count need bytes ≡ Ok (k.number, bars_of k)
-  pub next : k.next ≡ k.number
 
 -- What a first start takes: no number was used, and every bar is 0. Where a drive that is in holds a piece, it is no first start: the file was lost.
 abbrev pub first_start : (n need : ℕ) → (holds : Bool) → Result (ℕ × List ℕ) Refusal
@@ -117,8 +109,12 @@ pub record Started (ds : Drives) (need : ℕ) (each : Knowledge) (numbers : Resu
   pub drives : k.drives ≡ ds
   pub needs : k.need ≡ need
   pub known : knowledge k ≡ replicate objects each
-  pub taken : numbers ≡ Ok (k.number, bars_of k)
-  pub next : k.next ≡ k.number
+  pub taken : numbers ≡ Ok (k.numbers.file, bars_of k)
+  pub next : k.numbers.next ≡ k.numbers.file
+
+-- A keeper that came up: every object is unsure, and the next number is the file's, which is above every number used.
+abbrev pub Up : (ds : Drives) (need : ℕ) (bytes : List ℕ) → Keeper → Type 0
+Up ds need bytes k = Started ds need unsure (coming_up ds.count need bytes) k
 
 -- A start gives such a keeper, or refuses as what is taken is refused, or for want of memory.
 abbrev pub Starts : (ds : Drives) (need : ℕ) (each : Knowledge) (numbers : Result (ℕ × List ℕ) Refusal) → Result Keeper Refusal → Type 0

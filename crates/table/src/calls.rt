@@ -1,18 +1,47 @@
 // The keeper's steps on an object of the table. Each takes the object's state out of the table and hands it back in its answer.
-ghost use Rattle.std.specs.Prelude.{◌≡◌};
+ghost use Rattle.std.specs.Prelude.{◌≡◌, ◌<◌, ◌≤◌, length, MatchOption};
+ghost use Rattle.drives.specs.Place.{objects};
 ghost use Rattle.keeper.specs.Real.{GivesBy};
 ghost use Rattle.keeper.specs.Shown.{readings_of, Gives};
 ghost use Rattle.keeper.specs.Steps.{begin as begin_of, write as write_of, finish as finish_of, read as read_of, tidy as tidy_of, sweep as sweep_of, mend as mend_of, give_up, settle as settle_of};
-ghost use Rattle.table.specs.Table.{state_at, setup_in, on_object, Lent};
+ghost use Rattle.table.specs.Table.{flags_of, state_at, setup_in, on_object, Lent};
 
 use crate::table::Keeper;
 use drives::OBJECTS;
+use keeper::codec::Codec;
 use keeper::object::{Entry, Step};
 use keeper::refusal::Refusal;
+use keeper::view::View;
 use keeper::{placing, settling, steps};
 use std::alloc::Global;
 
 impl Keeper {
+    // How an object's pieces are made and worked out; none where there is no such object.
+    fn codec(&self, object: u64) -> Option<Codec>
+        ensures { MatchOption result (objects ≤ object) (λ c. (object < objects) × (c.object ≡ object) × (c.need ≡ self.now.need)) }
+    {
+        if object >= OBJECTS as u64 {
+            return None;
+        }
+        Some(Codec {
+            object: object as u8,
+            need: self.need,
+        })
+    }
+
+    // What a step looks at.
+    fn view<'a>(&'a self, heap: Global, entries: &'a [Entry]) -> View<'a>
+        ensures present { result.present.now ≡ flags_of self.now.drives }
+        ensures few { length result.present.now ≤ 32 }
+        ensures entries { result.entries.now ≡ entries.now }
+    {
+        View {
+            heap,
+            present: self.drives.flags(),
+            entries,
+        }
+    }
+
     // Begins to write an object that counts a version.
     pub fn begin(&mut self, heap: Global, object: u64, bytes: Vec<u8>) -> Step
         ensures step { Gives result (state_at self.old object) (on_object object (state_at self.old object) (λ s. begin_of s bytes.items)) }
@@ -31,21 +60,10 @@ impl Keeper {
         ensures after { Lent self.old self.new object }
     {
         let state = self.lend(object);
-        if object >= OBJECTS as u64 {
-            return steps::refuse(heap, state, Refusal::NoSuch);
-        }
-        let Some(drive) = self.drive_of(drive) else {
+        let (Some(codec), Some(drive)) = (self.codec(object), self.drive_of(drive)) else {
             return steps::refuse(heap, state, Refusal::NoSuch);
         };
-        placing::write(
-            heap,
-            object as u8,
-            self.need,
-            self.drives.flags(),
-            state,
-            drive,
-            entries,
-        )
+        placing::write(self.view(heap, entries), codec, state, drive)
     }
 
     // Finishes a writing. `entries` are those of all drives that are in.
@@ -54,10 +72,10 @@ impl Keeper {
         ensures after { Lent self.old self.new object }
     {
         let state = self.lend(object);
-        if object >= OBJECTS as u64 {
+        let Some(codec) = self.codec(object) else {
             return steps::refuse(heap, state, Refusal::NoSuch);
-        }
-        steps::finish(heap, self.need, self.drives.flags(), state, entries)
+        };
+        steps::finish(self.view(heap, entries), codec.need, state)
     }
 
     // Reads an object that counts a version. Enough pieces of that version are enough entries.
@@ -66,17 +84,10 @@ impl Keeper {
         ensures after { Lent self.old self.new object }
     {
         let state = self.lend(object);
-        if object >= OBJECTS as u64 {
+        let Some(codec) = self.codec(object) else {
             return steps::refuse(heap, state, Refusal::NoSuch);
-        }
-        placing::read(
-            heap,
-            object as u8,
-            self.need,
-            self.drives.flags(),
-            state,
-            entries,
-        )
+        };
+        placing::read(self.view(heap, entries), codec, state)
     }
 
     // Tidies an object that counts a version on a drive that is in. `entries` are the drive's.
@@ -85,13 +96,10 @@ impl Keeper {
         ensures after { Lent self.old self.new object }
     {
         let state = self.lend(object);
-        if object >= OBJECTS as u64 {
-            return steps::refuse(heap, state, Refusal::NoSuch);
-        }
-        let Some(drive) = self.drive_of(drive) else {
+        let (Some(_), Some(drive)) = (self.codec(object), self.drive_of(drive)) else {
             return steps::refuse(heap, state, Refusal::NoSuch);
         };
-        steps::tidy(heap, self.need, self.drives.flags(), state, drive, entries)
+        steps::tidy(self.view(heap, entries), state, drive)
     }
 
     // Sweeps an object on a drive that is in, at any time. `entries` are the drive's.
@@ -100,13 +108,10 @@ impl Keeper {
         ensures after { Lent self.old self.new object }
     {
         let state = self.lend(object);
-        if object >= OBJECTS as u64 {
-            return steps::refuse(heap, state, Refusal::NoSuch);
-        }
-        let Some(drive) = self.drive_of(drive) else {
+        let (Some(_), Some(drive)) = (self.codec(object), self.drive_of(drive)) else {
             return steps::refuse(heap, state, Refusal::NoSuch);
         };
-        steps::sweep(heap, self.need, self.drives.flags(), state, drive, entries)
+        steps::sweep(self.view(heap, entries), state, drive)
     }
 
     // Mends an object that counts a version on a drive that is in. `entries` are the drive's, and enough others of that version.
@@ -115,21 +120,10 @@ impl Keeper {
         ensures after { Lent self.old self.new object }
     {
         let state = self.lend(object);
-        if object >= OBJECTS as u64 {
-            return steps::refuse(heap, state, Refusal::NoSuch);
-        }
-        let Some(drive) = self.drive_of(drive) else {
+        let (Some(codec), Some(drive)) = (self.codec(object), self.drive_of(drive)) else {
             return steps::refuse(heap, state, Refusal::NoSuch);
         };
-        placing::mend(
-            heap,
-            object as u8,
-            self.need,
-            self.drives.flags(),
-            state,
-            drive,
-            entries,
-        )
+        placing::mend(self.view(heap, entries), codec, state, drive)
     }
 
     // Gives up an unfinished writing.
@@ -150,16 +144,9 @@ impl Keeper {
         ensures after { Lent self.old self.new object }
     {
         let state = self.lend(object);
-        if object >= OBJECTS as u64 {
+        let Some(codec) = self.codec(object) else {
             return steps::refuse(heap, state, Refusal::NoSuch);
-        }
-        settling::settle(
-            heap,
-            object as u8,
-            self.need,
-            self.drives.flags(),
-            state,
-            entries,
-        )
+        };
+        settling::settle(self.view(heap, entries), codec, state)
     }
 }

@@ -1,5 +1,5 @@
 // The keeper's file, written and read.
-ghost use Rattle.std.specs.Prelude.{◌≡◌, ◌+◌, ◌≤◌, ◌⊎◌, length, IfOk, Some, None, vec_len, MatchResult};
+ghost use Rattle.std.specs.Prelude.{◌≡◌, ◌⊎◌, length, IfOk, true, false, Some, None, vec_len, MatchOption, MatchResult};
 ghost use Rattle.drives.specs.Place.{objects};
 ghost use Rattle.slots.specs.Layout.{number_at};
 ghost use Rattle.keeper.specs.declared.refusal.Refusal.TheVariants.{BadFile, NoMemory};
@@ -39,36 +39,18 @@ pub fn encode(heap: Global, number: u64, bars: &[u64]) -> Result<Vec<u8>, AllocE
     Ok(bytes)
 }
 
-// The number that the eight bytes from a place on spell.
-fn word_at(bytes: &[u8], at: usize) -> u64
-    requires { at + 8 ≤ length bytes.now }
-    ensures { result ≡ number_at bytes.now at 8 }
+// The number in a file; none where the bytes are not as many as a file has, or their sum is wrong.
+fn number_in(bytes: &[u8]) -> Option<u64>
+    ensures { MatchOption result (is_file bytes.now ≡ false) (λ n. (is_file bytes.now ≡ true) × (length bytes.now ≡ 2060) × (n ≡ number_at bytes.now 0 8)) }
 {
-    u64::from_be_bytes([
-        bytes[at],
-        bytes[at + 1],
-        bytes[at + 2],
-        bytes[at + 3],
-        bytes[at + 4],
-        bytes[at + 5],
-        bytes[at + 6],
-        bytes[at + 7],
-    ])
-}
-
-// The number that the four bytes from a place on spell.
-fn sum_at(bytes: &[u8], at: usize) -> u32
-    requires { at + 4 ≤ length bytes.now }
-    ensures { result ≡ number_at bytes.now at 4 }
-{
-    u32::from_be_bytes([bytes[at], bytes[at + 1], bytes[at + 2], bytes[at + 3]])
-}
-
-// Whether the bytes are as many as a file has, and their sum is right.
-fn is_file(bytes: &[u8]) -> bool
-    ensures { result ≡ is_file bytes.now }
-{
-    bytes.len() == FILE && sum_at(bytes, FILE - SUM) == slots::adler(&bytes[0..FILE - SUM])
+    if bytes.len() != FILE {
+        return None;
+    }
+    let (summed, sum) = bytes.split_last_chunk::<SUM>()?;
+    if u32::from_be_bytes(*sum) != slots::adler(summed) {
+        return None;
+    }
+    Some(u64::from_be_bytes(*bytes.first_chunk::<WORD>()?))
 }
 
 // The bars of a file.
@@ -77,8 +59,9 @@ fn read_bars(heap: Global, bytes: &[u8]) -> Result<Vec<u64>, AllocError>
     ensures { IfOk result (λ v. (v.items ≡ bars_in objects bytes.now) × (vec_len v ≡ 256)) }
 {
     let mut bars = Vec::with_capacity(heap, OBJECTS)?;
-    for object in 0..OBJECTS {
-        bars.push(word_at(bytes, WORD + object * WORD))?;
+    // The sum behind them is half a word.
+    for word in bytes[WORD..].as_chunks::<WORD>().0 {
+        bars.push(u64::from_be_bytes(*word))?;
     }
     Ok(bars)
 }
@@ -87,16 +70,11 @@ fn read_bars(heap: Global, bytes: &[u8]) -> Result<Vec<u64>, AllocError>
 pub fn decode(heap: Global, bytes: &[u8]) -> Result<Page, Refusal>
     ensures { MatchResult result (λ p. read_file bytes.now ≡ Some (p.number, p.bars.items)) (λ e. (e ≡ NoMemory) ⊎ ((e ≡ BadFile) × (read_file bytes.now ≡ None))) }
 {
-    if !is_file(bytes) {
+    let Some(number) = number_in(bytes) else {
         return Err(Refusal::BadFile);
-    }
-    match read_bars(heap, bytes) {
-        Ok(bars) => Ok(Page {
-            number: word_at(bytes, 0),
-            bars,
-        }),
-        Err(_) => Err(Refusal::NoMemory),
-    }
+    };
+    let bars = read_bars(heap, bytes)?;
+    Ok(Page { number, bars })
 }
 
 // What is read of a written file is what was written, as a contract: without its proof the crate isn't proved.
