@@ -1,121 +1,136 @@
 // The keeper's steps on drives: each reads what it looks at, no more, and does what is to be done in its order.
 use crate::disks::Disks;
-use crate::fault::Fault;
-use crate::perform::perform_all;
+use crate::fault::{Failure, Fault};
 use keeper::object::{Answer, Entry, Step};
 use keeper::readings::is_holder;
+use slots::Owner;
 use std::alloc::Global;
 use table::Keeper;
 
-// How many objects there are, and a number that no drive has.
-const OBJECTS: u64 = 256;
-
-const NO_DRIVE: u8 = 255;
-
 #[derive(Drop)]
 pub struct Archive<D> {
+    pub heap: Global,
     pub keeper: Keeper,
     pub disks: D,
 }
 
+// What is known of an object once a step on it fails half-way.
+#[derive(Clone, Copy, PartialEq, Eq)]
+enum AfterFault {
+    // Nothing for sure: the step changes its state, or the file.
+    Unsure,
+    // What was known before: the step leaves both.
+    AsBefore,
+}
+
 impl<D: Disks> Archive<D> {
     // Begins to write an object that counts a version.
-    pub fn begin(&mut self, heap: Global, object: u64, bytes: Vec<u8>) -> Result<Answer, Fault> {
-        let step = self.keeper.begin(heap, object, bytes);
-        self.complete(heap, object, step)
+    pub fn begin(&mut self, object: u64, bytes: Vec<u8>) -> Result<Answer, Failure> {
+        let step = self.keeper.begin(self.heap, object, bytes);
+        self.complete(object, step, AfterFault::Unsure)
     }
 
     // Writes a piece of the new version to a drive that is in.
-    pub fn write(&mut self, heap: Global, object: u64, drive: u64) -> Result<Answer, Fault> {
-        let entries = self.on_drive(heap, object, drive)?;
-        let step = self.keeper.write(heap, object, drive, entries.as_slice());
-        self.complete_on_drive(heap, object, step)
+    pub fn write(&mut self, object: u64, drive: u64) -> Result<Answer, Failure> {
+        let entries = self.on_drive(object, drive)?;
+        let step = self
+            .keeper
+            .write(self.heap, object, drive, entries.as_slice());
+        self.complete(object, step, AfterFault::AsBefore)
     }
 
     // Finishes a writing.
-    pub fn finish(&mut self, heap: Global, object: u64) -> Result<Answer, Fault> {
-        let entries = self.on_all(heap, object)?;
-        let step = self.keeper.finish(heap, object, entries.as_slice());
-        self.complete(heap, object, step)
+    pub fn finish(&mut self, object: u64) -> Result<Answer, Failure> {
+        let entries = self.on_all(object)?;
+        let step = self.keeper.finish(self.heap, object, entries.as_slice());
+        self.complete(object, step, AfterFault::Unsure)
     }
 
     // Reads an object that counts a version.
-    pub fn read(&mut self, heap: Global, object: u64) -> Result<Answer, Fault> {
-        let mut entries = Vec::new(heap);
-        self.add_needed(heap, object, NO_DRIVE, &mut entries)?;
-        let step = self.keeper.read(heap, object, entries.as_slice());
-        self.complete_on_drive(heap, object, step)
+    pub fn read(&mut self, object: u64) -> Result<Answer, Failure> {
+        let mut entries = Vec::new(self.heap);
+        self.add_needed(object, None, &mut entries)?;
+        let step = self.keeper.read(self.heap, object, entries.as_slice());
+        self.complete(object, step, AfterFault::AsBefore)
     }
 
     // Takes away, on a drive that is in, the versions other than the one that counts.
-    pub fn tidy(&mut self, heap: Global, object: u64, drive: u64) -> Result<Answer, Fault> {
-        let entries = self.on_drive(heap, object, drive)?;
-        let step = self.keeper.tidy(heap, object, drive, entries.as_slice());
-        self.complete_on_drive(heap, object, step)
+    pub fn tidy(&mut self, object: u64, drive: u64) -> Result<Answer, Failure> {
+        let entries = self.on_drive(object, drive)?;
+        let step = self
+            .keeper
+            .tidy(self.heap, object, drive, entries.as_slice());
+        self.complete(object, step, AfterFault::AsBefore)
     }
 
     // Takes away, on a drive that is in, an object's versions below its bar.
-    pub fn sweep_object(&mut self, heap: Global, object: u64, drive: u64) -> Result<Answer, Fault> {
-        let entries = self.on_drive(heap, object, drive)?;
-        let step = self.keeper.sweep(heap, object, drive, entries.as_slice());
-        self.complete_on_drive(heap, object, step)
+    pub fn sweep_object(&mut self, object: u64, drive: u64) -> Result<Answer, Failure> {
+        let entries = self.on_drive(object, drive)?;
+        let step = self
+            .keeper
+            .sweep(self.heap, object, drive, entries.as_slice());
+        self.complete(object, step, AfterFault::AsBefore)
     }
 
     // Makes the piece of the version that counts, where a drive that is in lacks it.
-    pub fn mend(&mut self, heap: Global, object: u64, drive: u64) -> Result<Answer, Fault> {
-        let mut entries = self.on_drive(heap, object, drive)?;
-        if drive < OBJECTS && !self.has_counted(object, drive as u8, entries.as_slice()) {
-            self.add_needed(heap, object, drive as u8, &mut entries)?;
+    pub fn mend(&mut self, object: u64, drive: u64) -> Result<Answer, Failure> {
+        let mut entries = self.on_drive(object, drive)?;
+        if !self.has_counted(object, drive, entries.as_slice()) {
+            self.add_needed(object, Some(drive), &mut entries)?;
         }
-        let step = self.keeper.mend(heap, object, drive, entries.as_slice());
-        self.complete_on_drive(heap, object, step)
+        let step = self
+            .keeper
+            .mend(self.heap, object, drive, entries.as_slice());
+        self.complete(object, step, AfterFault::AsBefore)
     }
 
     // Gives up an unfinished writing.
-    pub fn give_up(&mut self, heap: Global, object: u64) -> Result<Answer, Fault> {
-        let step = self.keeper.give_up(heap, object);
-        self.complete(heap, object, step)
+    pub fn give_up(&mut self, object: u64) -> Result<Answer, Failure> {
+        let step = self.keeper.give_up(self.heap, object);
+        self.complete(object, step, AfterFault::Unsure)
     }
 
     // Settles an object that is unsure.
-    pub fn settle(&mut self, heap: Global, object: u64) -> Result<Answer, Fault> {
-        let entries = self.on_all(heap, object)?;
-        let step = self.keeper.settle(heap, object, entries.as_slice());
-        self.complete(heap, object, step)
+    pub fn settle(&mut self, object: u64) -> Result<Answer, Failure> {
+        let entries = self.on_all(object)?;
+        let step = self.keeper.settle(self.heap, object, entries.as_slice());
+        self.complete(object, step, AfterFault::Unsure)
     }
 
     // The pieces of an object on a drive; none where there is no such object or the drive isn't in.
-    fn on_drive(&mut self, heap: Global, object: u64, drive: u64) -> Result<Vec<Entry>, Fault> {
-        let mut entries = Vec::new(heap);
-        if object < OBJECTS && drive < OBJECTS && self.keeper.drives().is_in(drive as u8) {
-            self.disks
-                .read_object(heap, object as u8, drive as u8, &mut entries)?;
+    fn on_drive(&mut self, object: u64, drive: u64) -> Result<Vec<Entry>, Fault> {
+        let mut entries = Vec::new(self.heap);
+        if let (Ok(object), Some(drive)) = (u8::try_from(object), self.keeper.drive_of(drive))
+            && self.keeper.drives().is_in(drive)
+        {
+            let owner = Owner { object, drive };
+            self.disks.read_object(self.heap, owner, &mut entries)?;
         }
         Ok(entries)
     }
 
     // The pieces of an object on all drives that are in.
-    pub fn on_all(&mut self, heap: Global, object: u64) -> Result<Vec<Entry>, Fault> {
-        let mut entries = Vec::new(heap);
-        if object >= OBJECTS {
+    pub fn on_all(&mut self, object: u64) -> Result<Vec<Entry>, Fault> {
+        let mut entries = Vec::new(self.heap);
+        let Ok(object) = u8::try_from(object) else {
             return Ok(entries);
-        }
+        };
         let drives = self.keeper.drives();
         for drive in 0..drives.count() {
             if drives.is_in(drive) {
-                self.disks
-                    .read_object(heap, object as u8, drive, &mut entries)?;
+                let owner = Owner { object, drive };
+                self.disks.read_object(self.heap, owner, &mut entries)?;
             }
         }
         Ok(entries)
     }
 
     // Whether these pieces have, on a drive, the version that counts.
-    fn has_counted(&self, object: u64, drive: u8, entries: &[Entry]) -> bool {
-        if object >= OBJECTS {
+    fn has_counted(&self, object: u64, drive: u64, entries: &[Entry]) -> bool {
+        let (Ok(object), Ok(drive)) = (u8::try_from(object), u8::try_from(drive)) else {
             return false;
-        }
-        match self.keeper.counted(object as u8) {
+        };
+        match self.keeper.counted(object) {
             Some(version) => is_holder(entries, drive, version),
             None => false,
         }
@@ -124,33 +139,32 @@ impl<D: Disks> Archive<D> {
     // Adds the pieces on the lowest drives that are in, but for one, until as many as are needed have the version that counts.
     fn add_needed(
         &mut self,
-        heap: Global,
         object: u64,
-        but: u8,
+        but: Option<u64>,
         entries: &mut Vec<Entry>,
     ) -> Result<(), Fault> {
-        if object >= OBJECTS {
+        let Ok(object) = u8::try_from(object) else {
             return Ok(());
-        }
-        match self.keeper.counted(object as u8) {
+        };
+        match self.keeper.counted(object) {
             None | Some(0) => Ok(()),
-            Some(version) => self.add_holders(heap, object as u8, version, but, entries),
+            Some(version) => self.add_holders(object, version, but, entries),
         }
     }
 
     fn add_holders(
         &mut self,
-        heap: Global,
         object: u8,
         version: u64,
-        but: u8,
+        but: Option<u64>,
         entries: &mut Vec<Entry>,
     ) -> Result<(), Fault> {
         let drives = self.keeper.drives();
         let mut wanted = self.keeper.need();
         for drive in 0..drives.count() {
-            if wanted > 0 && drive != but && drives.is_in(drive) {
-                self.disks.read_object(heap, object, drive, entries)?;
+            if wanted > 0 && but != Some(u64::from(drive)) && drives.is_in(drive) {
+                let owner = Owner { object, drive };
+                self.disks.read_object(self.heap, owner, entries)?;
                 if is_holder(entries.as_slice(), drive, version) {
                     wanted -= 1;
                 }
@@ -159,52 +173,21 @@ impl<D: Disks> Archive<D> {
         Ok(())
     }
 
-    // Does what a step asks for, and hands the object's state back once all of it is done.
-    fn complete(&mut self, heap: Global, object: u64, step: Step) -> Result<Answer, Fault> {
+    // Does what a step asks for, and hands the object's state back.
+    fn complete(&mut self, object: u64, step: Step, after: AfterFault) -> Result<Answer, Failure> {
         let Step {
             answer,
             effects,
             object: state,
         } = step;
-        if object < OBJECTS {
-            perform_all(
-                heap,
-                &self.keeper,
-                &mut self.disks,
-                object as u8,
-                effects.as_slice(),
-            )?;
+        let Ok(number) = u8::try_from(object) else {
+            return Ok(answer?);
+        };
+        let done = self.perform_all(number, effects.as_slice());
+        if done.is_ok() || after == AfterFault::AsBefore {
             self.keeper.accept(object, state);
         }
-        Ok(answer)
-    }
-
-    // The same for the steps that leave the object's state as it was, and don't touch the file: it is handed back also where a drive fails half-way.
-    fn complete_on_drive(
-        &mut self,
-        heap: Global,
-        object: u64,
-        step: Step,
-    ) -> Result<Answer, Fault> {
-        let Step {
-            answer,
-            effects,
-            object: state,
-        } = step;
-        if object >= OBJECTS {
-            return Ok(answer);
-        }
-        let done = perform_all(
-            heap,
-            &self.keeper,
-            &mut self.disks,
-            object as u8,
-            effects.as_slice(),
-        );
-        self.keeper.accept(object, state);
-        match done {
-            Ok(()) => Ok(answer),
-            Err(fault) => Err(fault),
-        }
+        done?;
+        Ok(answer?)
     }
 }

@@ -9,7 +9,7 @@ use std::alloc::{AllocError, Global};
 use std::fmt;
 
 // An object whose bar isn't 0: its bar, and how many drives that are in have a piece of it.
-#[derive(Clone, Copy)]
+#[derive(Clone, Copy, PartialEq, Eq, Debug)]
 pub struct Kept {
     pub object: u8,
     pub version: u64,
@@ -67,7 +67,7 @@ impl Count {
     // The line that names the weak drives.
     pub fn weak_line(&self, heap: Global) -> Result<String, AllocError> {
         let strong = self.strong;
-        let weak = (strong.count() as usize).saturating_sub(strong.how_many_in());
+        let weak = usize::from(strong.count()).saturating_sub(strong.how_many_in());
         let mut line = format!(in heap; "weak {weak}:")?;
         for drive in 0..strong.count() {
             if !strong.is_in(drive) {
@@ -100,15 +100,15 @@ impl Count {
 
 impl<D: Disks> Archive<D> {
     // Counts, for each object whose bar isn't 0, the drives that are in and have it.
-    pub fn count(&mut self, heap: Global) -> Result<Count, Fault> {
+    pub fn count(&mut self) -> Result<Count, Fault> {
         let mut count = Count {
             strong: self.keeper.drives(),
-            objects: Vec::new(heap),
+            objects: Vec::new(self.heap),
         };
-        for object in 0..=255u8 {
+        for object in 0..=u8::MAX {
             let bar = self.keeper.bar(object);
             if bar != 0 {
-                let entries = self.on_all(heap, object as u64)?;
+                let entries = self.on_all(u64::from(object))?;
                 count.add(self.keeper.drives(), entries.as_slice(), object, bar)?;
             }
         }

@@ -4,6 +4,7 @@ ghost use Rattle.archive.specs.Deeds.{Deed, wrote, cleared, replaced};
 
 use crate::fault::Fault;
 use keeper::object::Entry;
+use slots::Owner;
 use std::alloc::Global;
 
 // Each call is done, and lasts, once it answers Ok; where it answers a fault, the place, or the file, may be anything that a stop leaves.
@@ -15,18 +16,17 @@ pub trait Disks {
     fn read_object(
         &mut self,
         heap: Global,
-        object: u8,
-        drive: u8,
+        owner: Owner,
         into: &mut Vec<Entry>,
     ) -> Result<(), Fault>;
 
     // Writes these bytes to the front of a place.
-    fn write(&mut self, object: u8, drive: u8, place: u8, bytes: &[u8]) -> Result<(), Fault>
-        ensures { is_ok result ≡ true → does (wrote object drive place bytes.now) self.old self.new };
+    fn write(&mut self, owner: Owner, place: u8, bytes: &[u8]) -> Result<(), Fault>
+        ensures { is_ok result ≡ true → does (wrote owner.object owner.drive place bytes.now) self.old self.new };
 
     // Writes zeros over the whole record in a place.
-    fn clear(&mut self, object: u8, drive: u8, place: u8) -> Result<(), Fault>
-        ensures { is_ok result ≡ true → does (cleared object drive place) self.old self.new };
+    fn clear(&mut self, owner: Owner, place: u8) -> Result<(), Fault>
+        ensures { is_ok result ≡ true → does (cleared owner.object owner.drive place) self.old self.new };
 
     // Replaces the keeper's own file by these bytes: until it is done the old one stands.
     fn replace_file(&mut self, bytes: &[u8]) -> Result<(), Fault>

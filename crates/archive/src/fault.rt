@@ -1,11 +1,14 @@
-// What can go wrong outside the keeper.
+// What can go wrong.
 ghost use Rattle.std.specs.Prelude.{◌≡◌};
 ghost use Rattle.archive.specs.declared.fault.Fault.TheVariants.{NoMemory};
+ghost use Rattle.archive.specs.declared.fault.Failure.TheVariants.{Refused, Outside};
 
+use keeper::refusal::Refusal;
 use std::alloc::AllocError;
 use std::fmt;
 
-#[derive(Clone, Copy)]
+// What can go wrong outside the keeper.
+#[derive(Clone, Copy, PartialEq, Eq, Debug)]
 pub enum Fault {
     // The keeper was stopped, and has to come up again.
     Stopped,
@@ -14,6 +17,13 @@ pub enum Fault {
     // The keeper's own file can't be replaced.
     FileFailed,
     NoMemory,
+}
+
+// Why a step isn't done: the keeper refuses it, or something goes wrong outside.
+#[derive(Clone, Copy, PartialEq, Eq, Debug)]
+pub enum Failure {
+    Refused(Refusal),
+    Outside(Fault),
 }
 
 impl fmt::Display for Fault {
@@ -32,5 +42,29 @@ impl From<AllocError> for Fault {
 
     fn from(_e: AllocError) -> Fault {
         Fault::NoMemory
+    }
+}
+
+impl From<Refusal> for Failure {
+    ghost from_gives = { λ why r. r ≡ Refused why };
+
+    fn from(why: Refusal) -> Failure {
+        Failure::Refused(why)
+    }
+}
+
+impl From<AllocError> for Failure {
+    ghost from_gives = { λ _ r. r ≡ Outside NoMemory };
+
+    fn from(_e: AllocError) -> Failure {
+        Failure::Outside(Fault::NoMemory)
+    }
+}
+
+impl From<Fault> for Failure {
+    ghost from_gives = { λ fault r. r ≡ Outside fault };
+
+    fn from(fault: Fault) -> Failure {
+        Failure::Outside(fault)
     }
 }

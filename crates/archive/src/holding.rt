@@ -2,13 +2,14 @@
 use crate::disks::Disks;
 use crate::fault::Fault;
 use drives::Drives;
+use slots::Owner;
 use std::alloc::Global;
 
 // Whether a drive holds a piece of any object.
 fn holds<D: Disks>(heap: Global, disks: &mut D, drive: u8) -> Result<bool, Fault> {
     let mut entries = Vec::new(heap);
-    for object in 0..=255u8 {
-        disks.read_object(heap, object, drive, &mut entries)?;
+    for object in 0..=u8::MAX {
+        disks.read_object(heap, Owner { object, drive }, &mut entries)?;
         if !entries.is_empty() {
             return Ok(true);
         }

@@ -1,60 +1,48 @@
 // A command's way to its answer.
 use crate::archive::Archive;
 use crate::disks::Disks;
-use crate::fault::Fault;
-use crate::many::Healed;
+use crate::fault::{Failure, Fault};
 use crate::reply::{Reply, reply_to};
-use keeper::object::Answer;
+use keeper::refusal::Refusal;
 use script::Command;
-use std::alloc::Global;
 
 impl<D: Disks> Archive<D> {
     // Plays a command of one line. A drive that fails is out from then on. What isn't a step of the keeper's is for the program to do.
-    pub fn play(&mut self, heap: Global, command: Command) -> Result<Reply, Fault> {
-        match self.play_command(heap, command) {
+    pub fn play(&mut self, command: Command) -> Result<Reply, Fault> {
+        match self.play_command(command) {
             Ok(reply) => Ok(reply),
-            Err(fault) => {
+            Err(Failure::Refused(Refusal::NoMemory)) => Err(Fault::NoMemory),
+            Err(Failure::Refused(why)) => Ok(Reply::Refused(why)),
+            Err(Failure::Outside(fault)) => {
                 if let Fault::DriveFailed(drive) = fault {
-                    let _ = self.keeper.take_out(drive as u64);
+                    let _ = self.keeper.take_out(u64::from(drive));
                 }
                 Err(fault)
             }
         }
     }
 
-    fn play_command(&mut self, heap: Global, command: Command) -> Result<Reply, Fault> {
-        match command {
-            Command::Heal => {
-                let Healed { tidied, mended } = self.heal(heap)?;
-                Ok(Reply::Healed { tidied, mended })
-            }
+    fn play_command(&mut self, command: Command) -> Result<Reply, Failure> {
+        let answer = match command {
+            Command::Begin { object, bytes } => self.begin(object, bytes)?,
+            Command::Write { object, drive } => self.write(object, drive)?,
+            Command::Finish { object } => self.finish(object)?,
+            Command::Read { object } => self.read(object)?,
+            Command::Tidy { object, drive } => self.tidy(object, drive)?,
+            Command::Mend { object, drive } => self.mend(object, drive)?,
+            Command::Sweep { drive } => self.sweep(drive)?,
+            Command::Settle { object } => self.settle(object)?,
+            Command::GiveUp { object } => self.give_up(object)?,
+            Command::Put { object, bytes } => self.put(object, bytes)?,
+            Command::Out { drive } => self.keeper.take_out(drive)?,
+            Command::In { drive } => self.keeper.put_in(drive)?,
+            Command::Heal => return Ok(Reply::Healed(self.heal()?)),
             Command::Count
             | Command::Show
             | Command::Stop(_)
             | Command::Wipe { .. }
-            | Command::Spoil { .. } => Ok(Reply::NotHere),
-            other => {
-                let answer = self.play_step(heap, other)?;
-                Ok(reply_to(heap, answer)?)
-            }
-        }
-    }
-
-    fn play_step(&mut self, heap: Global, command: Command) -> Result<Answer, Fault> {
-        match command {
-            Command::Begin { object, bytes } => self.begin(heap, object, bytes),
-            Command::Write { object, drive } => self.write(heap, object, drive),
-            Command::Finish { object } => self.finish(heap, object),
-            Command::Read { object } => self.read(heap, object),
-            Command::Tidy { object, drive } => self.tidy(heap, object, drive),
-            Command::Mend { object, drive } => self.mend(heap, object, drive),
-            Command::Sweep { drive } => self.sweep(heap, drive),
-            Command::Settle { object } => self.settle(heap, object),
-            Command::GiveUp { object } => self.give_up(heap, object),
-            Command::Put { object, bytes } => self.put(heap, object, bytes),
-            Command::Out { drive } => Ok(self.keeper.take_out(drive)),
-            Command::In { drive } => Ok(self.keeper.put_in(drive)),
-            _ => Ok(Answer::Done),
-        }
+            | Command::Spoil { .. } => return Ok(Reply::NotHere),
+        };
+        Ok(reply_to(self.heap, answer)?)
     }
 }

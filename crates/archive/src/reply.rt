@@ -1,6 +1,5 @@
 // What a command is answered, as a line.
-use crate::fault::Fault;
-use keeper::number_of;
+use crate::many::Healed;
 use keeper::object::Answer;
 use keeper::refusal::Refusal;
 use std::alloc::{AllocError, Global};
@@ -8,8 +7,7 @@ use std::fmt;
 
 #[derive(Drop)]
 pub enum Reply {
-    // by the refusal's number
-    Refused(u8),
+    Refused(Refusal),
     Done,
     Version(u64),
     // the version that counts, and its bytes in hexadecimal
@@ -20,17 +18,15 @@ pub enum Reply {
     // settling found a version, and writes it anew as another
     Found { version: u64, anew: u64 },
     Unknown,
-    Healed { tidied: usize, mended: usize },
+    Healed(Healed),
     // not a command of this program
     NotHere,
-    // nothing is told but what went wrong
-    Failed(Fault),
 }
 
 impl fmt::Display for Reply {
     fn fmt<W: fmt::Write>(&self, f: &mut fmt::Formatter<W>) -> fmt::Result {
         match self {
-            Reply::Refused(number) => write!(f, "refused {number}"),
+            Reply::Refused(why) => write_refusal(f, *why),
             Reply::Done => f.write_str("ok"),
             Reply::Version(version) => write!(f, "ok version {version}"),
             Reply::Has { version, hex } => write_object(f, *version, hex.as_str()),
@@ -38,11 +34,22 @@ impl fmt::Display for Reply {
             Reply::Pieces(pieces) => write!(f, "ok {pieces}"),
             Reply::Found { version, anew } => write!(f, "ok found {version} version {anew}"),
             Reply::Unknown => f.write_str("ok unknown"),
-            Reply::Healed { tidied, mended } => write!(f, "ok tidied {tidied} mended {mended}"),
+            Reply::Healed(healed) => write!(f, "ok {healed}"),
             Reply::NotHere => f.write_str("error: unknown command"),
-            Reply::Failed(fault) => write!(f, "error: {fault}"),
         }
     }
+}
+
+impl fmt::Display for Healed {
+    fn fmt<W: fmt::Write>(&self, f: &mut fmt::Formatter<W>) -> fmt::Result {
+        let Healed { tidied, mended } = *self;
+        write!(f, "tidied {tidied} mended {mended}")
+    }
+}
+
+fn write_refusal<W: fmt::Write>(f: &mut fmt::Formatter<W>, why: Refusal) -> fmt::Result {
+    let number = why.number();
+    write!(f, "refused {number}")
 }
 
 // An empty object's line ends with its version.
@@ -54,17 +61,9 @@ fn write_object<W: fmt::Write>(f: &mut fmt::Formatter<W>, version: u64, hex: &st
     }
 }
 
-fn refusal(why: Refusal) -> Reply {
-    match number_of(why) {
-        0 => Reply::Failed(Fault::NoMemory),
-        number => Reply::Refused(number),
-    }
-}
-
 // What is told of a step's answer.
 pub fn reply_to(heap: Global, answer: Answer) -> Result<Reply, AllocError> {
     match answer {
-        Answer::Refused(why) => Ok(refusal(why)),
         Answer::Done => Ok(Reply::Done),
         Answer::Version(version) => Ok(Reply::Version(version)),
         Answer::Has(version, bytes) => Ok(Reply::Has {
@@ -73,7 +72,7 @@ pub fn reply_to(heap: Global, answer: Answer) -> Result<Reply, AllocError> {
         }),
         Answer::Nothing => Ok(Reply::Nothing),
         Answer::Removed(pieces) => Ok(Reply::Pieces(pieces)),
-        Answer::Mended(pieces) => Ok(Reply::Pieces(pieces as usize)),
+        Answer::Mended(pieces) => Ok(Reply::Pieces(usize::from(pieces))),
         Answer::Found(version, anew) => Ok(Reply::Found { version, anew }),
         Answer::Unknown => Ok(Reply::Unknown),
     }

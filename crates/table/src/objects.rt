@@ -108,7 +108,7 @@ impl Keeper {
     }
 
     // The drive of a number; none where there is no such drive.
-    pub(crate) fn drive_of(&self, drive: u64) -> Option<u8>
+    pub fn drive_of(&self, drive: u64) -> Option<u8>
         ensures { MatchOption result (nat_lt drive self.now.drives.count ≡ false) (λ d. (d ≡ drive) × (nat_lt drive self.now.drives.count ≡ true)) }
     {
         if drive < u64::from(self.drives.count()) {
