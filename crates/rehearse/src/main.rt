@@ -70,7 +70,7 @@ fn play_command(rt: &HostRuntime, rehearsal: &mut Rehearsal, command: Command) -
         Command::Show => show(rt, rehearsal),
         Command::Count => count(rt, rehearsal),
         other => {
-            let played = rehearsal.play(rt.alloc(), other);
+            let played = rehearsal.play(other);
             tell(rt, rehearsal, played)
         }
     }
@@ -91,7 +91,7 @@ fn tell(
 }
 
 fn come_up(rt: &HostRuntime, rehearsal: &mut Rehearsal) -> io::Result<()> {
-    match rehearsal.come_up(rt.alloc()) {
+    match rehearsal.come_up() {
         Ok(()) => println!(rt; "stopped"),
         Err(fault) => end(rt, fault),
     }
@@ -105,7 +105,7 @@ fn end(rt: &HostRuntime, fault: Fault) -> io::Result<()> {
 
 fn show(rt: &HostRuntime, rehearsal: &mut Rehearsal) -> io::Result<()> {
     for drive in 0..rehearsal.archive.keeper.drives().count() {
-        match rehearsal.drive_line(rt.alloc(), drive) {
+        match rehearsal.drive_line(drive) {
             Ok(line) => println!(rt; "{line}")?,
             Err(_) => return end(rt, Fault::NoMemory),
         }
@@ -114,7 +114,7 @@ fn show(rt: &HostRuntime, rehearsal: &mut Rehearsal) -> io::Result<()> {
 }
 
 fn count(rt: &HostRuntime, rehearsal: &mut Rehearsal) -> io::Result<()> {
-    let Ok(count) = rehearsal.archive.count(rt.alloc()) else {
+    let Ok(count) = rehearsal.archive.count() else {
         return end(rt, Fault::NoMemory);
     };
     match count.weak_line(rt.alloc()) {

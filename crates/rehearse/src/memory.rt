@@ -1,14 +1,11 @@
 // Drives in memory, and the keeper's file, with a stop that may wait.
 use crate::slot::{clear_over, entry_at, spoil, version_at, write_over};
 use archive::{Disks, Fault};
+use drives::{OBJECTS, PLACES};
 use keeper::object::Entry;
 use script::StopAt;
+use slots::Owner;
 use std::alloc::{AllocError, Global};
-
-// How many places an object has on a drive, and how many places a drive has.
-const PLACES: u8 = 4;
-
-const SLOTS: usize = 1024;
 
 // A drive: its slots by object and place. A slot that was never written takes no memory.
 #[derive(Drop)]
@@ -18,24 +15,21 @@ pub struct Drive {
 
 #[derive(Drop)]
 pub struct Memory {
+    heap: Global,
     drives: Vec<Drive>,
-    // empty until it is first written
-    file: Vec<u8>,
+    // none until it is first written
+    file: Option<Vec<u8>>,
     // the stop that waits
     pub waiting: Option<StopAt>,
 }
 
 impl Drive {
     fn empty(heap: Global) -> Result<Drive, AllocError> {
-        let mut slots = Vec::with_capacity(heap, SLOTS)?;
-        for _ in 0..SLOTS {
+        let mut slots = Vec::with_capacity(heap, OBJECTS * PLACES)?;
+        for _ in 0..OBJECTS * PLACES {
             slots.push(Vec::new(heap))?;
         }
         Ok(Drive { slots })
-    }
-
-    fn slot(&mut self, object: u8, place: u8) -> Option<&mut Vec<u8>> {
-        self.slots.get_mut(object as usize * 4 + place as usize)
     }
 }
 
@@ -47,41 +41,41 @@ impl Memory {
             drives.push(Drive::empty(heap)?)?;
         }
         Ok(Memory {
+            heap,
             drives,
-            file: Vec::new(heap),
+            file: None,
             waiting: None,
         })
     }
 
     // The keeper's file, if it was ever written.
     pub fn file(&self) -> Option<&[u8]> {
-        if self.file.is_empty() {
-            None
-        } else {
-            Some(self.file.as_slice())
-        }
-    }
-
-    fn slot(&mut self, drive: u8, object: u8, place: u8) -> Option<&mut Vec<u8>> {
-        match self.drives.get_mut(drive as usize) {
-            Some(found) => found.slot(object, place),
+        match &self.file {
+            Some(bytes) => Some(bytes.as_slice()),
             None => None,
         }
     }
 
+    fn slot(&mut self, owner: Owner, place: u8) -> Option<&mut Vec<u8>> {
+        self.drives
+            .get_mut(usize::from(owner.drive))?
+            .slots
+            .get_mut(usize::from(owner.object) * PLACES + usize::from(place))
+    }
+
     // The drive has nothing any more.
     pub fn wipe(&mut self, heap: Global, drive: u8) -> Result<(), AllocError> {
-        if let Some(found) = self.drives.get_mut(drive as usize) {
+        if let Some(found) = self.drives.get_mut(usize::from(drive)) {
             *found = Drive::empty(heap)?;
         }
         Ok(())
     }
 
     // Turns a bit of the piece of a version; false where there is no such piece.
-    pub fn spoil(&mut self, drive: u8, object: u8, version: u64) -> bool {
-        for place in 0..PLACES {
-            if let Some(slot) = self.slot(drive, object, place)
-                && spoil(slot.as_mut_slice(), object, drive, version)
+    pub fn spoil(&mut self, owner: Owner, version: u64) -> bool {
+        for place in 0..PLACES as u8 {
+            if let Some(slot) = self.slot(owner, place)
+                && spoil(slot.as_mut_slice(), owner, version)
             {
                 return true;
             }
@@ -90,16 +84,11 @@ impl Memory {
     }
 
     // The versions that a drive has of an object, in order.
-    pub fn versions(
-        &mut self,
-        heap: Global,
-        drive: u8,
-        object: u8,
-    ) -> Result<Vec<u64>, AllocError> {
+    pub fn versions(&mut self, heap: Global, owner: Owner) -> Result<Vec<u64>, AllocError> {
         let mut versions = Vec::new(heap);
-        for place in 0..PLACES {
-            if let Some(slot) = self.slot(drive, object, place)
-                && let Some(version) = version_at(slot.as_slice(), object, drive)
+        for place in 0..PLACES as u8 {
+            if let Some(slot) = self.slot(owner, place)
+                && let Some(version) = version_at(slot.as_slice(), owner)
             {
                 versions.push(version)?;
             }
@@ -128,36 +117,34 @@ impl Disks for Memory {
     fn read_object(
         &mut self,
         heap: Global,
-        object: u8,
-        drive: u8,
+        owner: Owner,
         into: &mut Vec<Entry>,
     ) -> Result<(), Fault> {
-        for place in 0..PLACES {
-            if let Some(slot) = self.slot(drive, object, place)
-                && let Some(entry) = entry_at(heap, slot.as_slice(), object, drive, place)?
-                && into.push(entry).is_err()
+        for place in 0..PLACES as u8 {
+            if let Some(slot) = self.slot(owner, place)
+                && let Some(entry) = entry_at(heap, slot.as_slice(), owner, place)?
             {
-                return Err(Fault::NoMemory);
+                into.push(entry).map_err(AllocError::from)?;
             }
         }
         Ok(())
     }
 
-    fn write(&mut self, object: u8, drive: u8, place: u8, bytes: &[u8]) -> Result<(), Fault> {
+    fn write(&mut self, owner: Owner, place: u8, bytes: &[u8]) -> Result<(), Fault> {
         let cut = self.is_cut();
-        let Some(slot) = self.slot(drive, object, place) else {
-            return Err(Fault::DriveFailed(drive));
-        };
+        let slot = self
+            .slot(owner, place)
+            .ok_or(Fault::DriveFailed(owner.drive))?;
         write_over(slot, bytes, cut)?;
         outcome(cut)
     }
 
-    fn clear(&mut self, object: u8, drive: u8, place: u8) -> Result<(), Fault> {
+    fn clear(&mut self, owner: Owner, place: u8) -> Result<(), Fault> {
         let cut = self.is_cut();
-        let Some(slot) = self.slot(drive, object, place) else {
-            return Err(Fault::DriveFailed(drive));
-        };
-        clear_over(slot.as_mut_slice(), object, drive, cut);
+        let slot = self
+            .slot(owner, place)
+            .ok_or(Fault::DriveFailed(owner.drive))?;
+        clear_over(slot.as_mut_slice(), owner, cut);
         outcome(cut)
     }
 
@@ -165,12 +152,7 @@ impl Disks for Memory {
         if let Some(StopAt::FileOld) = self.waiting {
             return Err(Fault::Stopped);
         }
-        self.file.resize(bytes.len(), 0)?;
-        self.file.as_mut_slice().copy_from_slice(bytes);
-        if let Some(StopAt::FileNew) = self.waiting {
-            Err(Fault::Stopped)
-        } else {
-            Ok(())
-        }
+        self.file = Some(Vec::from_slice(self.heap, bytes)?);
+        outcome(matches!(self.waiting, Some(StopAt::FileNew)))
     }
 }

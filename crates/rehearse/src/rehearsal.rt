@@ -5,14 +5,9 @@ use archive::{Archive, Fault, Reply, holds_any};
 use drives::Drives;
 use keeper::refusal::Refusal;
 use script::{Command, StopAt};
+use slots::Owner;
 use std::alloc::{AllocError, Global};
 use table::Keeper;
-
-const OBJECTS: u64 = 256;
-
-const NO_SUCH: u8 = 1;
-
-const NO_PIECE: u8 = 7;
 
 #[derive(Drop)]
 pub struct Rehearsal {
@@ -32,35 +27,37 @@ fn start(heap: Global, disks: &mut Memory, drives: Drives, need: u8) -> Result<K
 impl Rehearsal {
     pub fn new(heap: Global, setup: Setup) -> Result<Rehearsal, Fault> {
         let mut disks = Memory::empty(heap, setup.drives)?;
-        let Some(drives) = Drives::new(setup.drives) else {
-            return Err(Fault::FileFailed);
-        };
+        let drives = Drives::new(setup.drives).ok_or(Fault::FileFailed)?;
         let keeper = start(heap, &mut disks, drives, setup.need)?;
         Ok(Rehearsal {
-            archive: Archive { keeper, disks },
+            archive: Archive {
+                heap,
+                keeper,
+                disks,
+            },
         })
     }
 
     // The keeper comes up again; no stop waits any more.
-    pub fn come_up(&mut self, heap: Global) -> Result<(), Fault> {
+    pub fn come_up(&mut self) -> Result<(), Fault> {
         self.archive.disks.waiting = None;
         let drives = self.archive.keeper.drives();
         let need = self.archive.keeper.need();
-        self.archive.keeper = start(heap, &mut self.archive.disks, drives, need)?;
+        self.archive.keeper = start(self.archive.heap, &mut self.archive.disks, drives, need)?;
         Ok(())
     }
 
     // Plays a command that is answered by one line.
-    pub fn play(&mut self, heap: Global, command: Command) -> Result<Reply, Fault> {
+    pub fn play(&mut self, command: Command) -> Result<Reply, Fault> {
         match command {
             Command::Stop(at) => self.stop(at),
-            Command::Wipe { drive } => self.wipe(heap, drive),
+            Command::Wipe { drive } => self.wipe(drive),
             Command::Spoil {
                 drive,
                 object,
                 version,
             } => Ok(self.spoil(drive, object, version)),
-            other => self.archive.play(heap, other),
+            other => self.archive.play(other),
         }
     }
 
@@ -72,48 +69,37 @@ impl Rehearsal {
         Ok(Reply::Done)
     }
 
-    // The drive of a number; none where there is no such drive.
-    fn drive_of(&self, drive: u64) -> Option<u8> {
-        let count = self.archive.keeper.drives().count();
-        if drive < count as u64 {
-            Some(drive as u8)
-        } else {
-            None
-        }
-    }
-
-    fn wipe(&mut self, heap: Global, drive: u64) -> Result<Reply, Fault> {
-        let Some(drive) = self.drive_of(drive) else {
-            return Ok(Reply::Refused(NO_SUCH));
+    fn wipe(&mut self, drive: u64) -> Result<Reply, Fault> {
+        let Some(drive) = self.archive.keeper.drive_of(drive) else {
+            return Ok(Reply::Refused(Refusal::NoSuch));
         };
-        self.archive.disks.wipe(heap, drive)?;
+        self.archive.disks.wipe(self.archive.heap, drive)?;
         Ok(Reply::Done)
     }
 
     fn spoil(&mut self, drive: u64, object: u64, version: u64) -> Reply {
-        let Some(drive) = self.drive_of(drive) else {
-            return Reply::Refused(NO_SUCH);
+        let (Some(drive), Ok(object)) = (self.archive.keeper.drive_of(drive), u8::try_from(object))
+        else {
+            return Reply::Refused(Refusal::NoSuch);
         };
-        if object >= OBJECTS {
-            return Reply::Refused(NO_SUCH);
-        }
-        if self.archive.disks.spoil(drive, object as u8, version) {
+        if self.archive.disks.spoil(Owner { object, drive }, version) {
             Reply::Done
         } else {
-            Reply::Refused(NO_PIECE)
+            Reply::Refused(Refusal::TooFewPieces)
         }
     }
 
     // What `show` says of a drive.
-    pub fn drive_line(&mut self, heap: Global, drive: u8) -> Result<String, AllocError> {
+    pub fn drive_line(&mut self, drive: u8) -> Result<String, AllocError> {
+        let heap = self.archive.heap;
         let state = if self.archive.keeper.drives().is_in(drive) {
             "in"
         } else {
             "out"
         };
         let mut line = format!(in heap; "drive {drive} {state}:")?;
-        for object in 0..=255u8 {
-            let versions = self.archive.disks.versions(heap, drive, object)?;
+        for object in 0..=u8::MAX {
+            let versions = self.archive.disks.versions(heap, Owner { object, drive })?;
             add_versions(heap, &mut line, object, versions.as_slice())?;
         }
         Ok(line)
@@ -130,7 +116,7 @@ fn add_versions(
     let mut last = None;
     for version in versions {
         if last != Some(*version) {
-            line.push_str(format!(in heap; " {object}:{version}")?.as_str())?;
+            write!(line, " {object}:{version}")?;
         }
         last = Some(*version);
     }
@@ -153,9 +139,13 @@ mod tests {
             start(heap, &mut disks, drives, 2).is_ok(),
             "nothing on the drives"
         );
-        let record = slots::encode(heap, 255, 2, 1, &[1, 2])?.ok_or("a short piece")?;
+        let owner = Owner {
+            object: 255,
+            drive: 2,
+        };
+        let record = slots::encode(heap, owner, 1, &[1, 2])?.ok_or("a short piece")?;
         assert!(rt;
-            disks.write(255, 2, 3, record.as_slice()).is_ok(),
+            disks.write(owner, 3, record.as_slice()).is_ok(),
             "the last place"
         );
         let refused = matches!(&start(heap, &mut disks, drives, 2), Err(Fault::FileFailed));

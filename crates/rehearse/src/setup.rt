@@ -4,13 +4,13 @@ ghost use Rattle.rehearse.specs.Setups.{setup_of};
 
 use std::fmt;
 
-#[derive(Clone, Copy)]
+#[derive(Clone, Copy, PartialEq, Eq, Debug)]
 pub struct Setup {
     pub drives: u8,
     pub need: u8,
 }
 
-#[derive(Clone, Copy)]
+#[derive(Clone, Copy, PartialEq, Eq, Debug)]
 pub enum SetupError {
     Usage,
     Drives,
@@ -34,15 +34,11 @@ impl fmt::Display for SetupError {
 pub fn set_up(drives: &[u8], need: &[u8]) -> Result<Setup, SetupError>
     ensures { result ≡ setup_of drives.now need.now }
 {
-    let Some(n) = script::number(drives) else {
-        return Err(SetupError::Drives);
-    };
+    let n = script::number(drives).ok_or(SetupError::Drives)?;
     if n < 2 || n > 32 {
         return Err(SetupError::Drives);
     }
-    let Some(k) = script::number(need) else {
-        return Err(SetupError::Need);
-    };
+    let k = script::number(need).ok_or(SetupError::Need)?;
     if k < 1 || k >= n {
         return Err(SetupError::Need);
     }

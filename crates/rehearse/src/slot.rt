@@ -1,10 +1,12 @@
 // A slot in memory: its bytes from the first on, as many as were ever written; those behind are zeros.
 use keeper::object::Entry;
-use slots::SLOT;
+use slots::{Owner, SLOT};
 use std::alloc::{AllocError, Global};
 
 // The place of a piece's first byte in a slot.
 const HEADER: usize = 15;
+
+const ZEROS: [u8; SLOT] = [0; SLOT];
 
 // Writes bytes to the front of a slot. Where the writing is cut, only those at even places get there, and the slot is then held in full, since the length
 // that its header names may be any.
@@ -27,70 +29,56 @@ pub fn write_over(slot: &mut Vec<u8>, bytes: &[u8], cut: bool) -> Result<(), All
 
 // The new bytes come to the even places, and the odd ones keep the old.
 fn mix(slot: &mut [u8], bytes: &[u8]) {
-    for (i, byte) in bytes.iter().enumerate() {
-        if i % 2 == 0 && i < slot.len() {
-            slot[i] = *byte;
+    for (place, (old, new)) in slot.iter_mut().zip(bytes).enumerate() {
+        if place % 2 == 0 {
+            *old = *new;
         }
     }
 }
 
 // Writes zeros over the record in a slot, and nothing where there is none. Where that is cut, only those at even places get there.
-pub fn clear_over(slot: &mut [u8], object: u8, drive: u8, cut: bool) {
+pub fn clear_over(slot: &mut [u8], owner: Owner, cut: bool) {
     if cut {
-        clear_even(slot, object, drive);
+        let len = record_len(slot, owner).min(SLOT);
+        mix(slot, &ZEROS[..len]);
     } else {
-        let _ = slots::clear(slot, object, drive);
+        let _ = slots::clear(slot, owner);
     }
 }
 
-fn clear_even(slot: &mut [u8], object: u8, drive: u8) {
-    let piece = match slots::read(slot, object, drive) {
-        Some(held) => held.piece.len(),
-        None => return,
-    };
-    if let Some(end) = slots::record_len(piece) {
-        zero_even(slot, end);
-    }
-}
-
-fn zero_even(slot: &mut [u8], end: usize) {
-    for i in 0..end {
-        if i % 2 == 0 && i < slot.len() {
-            slot[i] = 0;
-        }
-    }
+// How many bytes the record in a slot has; 0 where there is none.
+fn record_len(slot: &[u8], owner: Owner) -> usize {
+    slots::read(slot, owner)
+        .and_then(|held| slots::record_len(held.piece.len()))
+        .unwrap_or(0)
 }
 
 // The piece that a slot holds, in bytes of its own.
 pub fn entry_at(
     heap: Global,
     slot: &[u8],
-    object: u8,
-    drive: u8,
+    owner: Owner,
     place: u8,
 ) -> Result<Option<Entry>, AllocError> {
-    match slots::read(slot, object, drive) {
-        Some(held) => Ok(Some(Entry {
-            drive,
-            place,
-            version: held.version,
-            piece: Vec::from_slice(heap, held.piece)?,
-        })),
-        None => Ok(None),
-    }
+    let Some(held) = slots::read(slot, owner) else {
+        return Ok(None);
+    };
+    Ok(Some(Entry {
+        drive: owner.drive,
+        place,
+        version: held.version,
+        piece: Vec::from_slice(heap, held.piece)?,
+    }))
 }
 
 // The version that a slot holds.
-pub fn version_at(slot: &[u8], object: u8, drive: u8) -> Option<u64> {
-    match slots::read(slot, object, drive) {
-        Some(held) => Some(held.version),
-        None => None,
-    }
+pub fn version_at(slot: &[u8], owner: Owner) -> Option<u64> {
+    Some(slots::read(slot, owner)?.version)
 }
 
 // Turns the lowest bit of the first byte of the piece of a version. False, and nothing changes, where the slot doesn't hold it.
-pub fn spoil(slot: &mut [u8], object: u8, drive: u8, version: u64) -> bool {
-    if version_at(slot, object, drive) != Some(version) || slot.len() <= HEADER {
+pub fn spoil(slot: &mut [u8], owner: Owner, version: u64) -> bool {
+    if version_at(slot, owner) != Some(version) || slot.len() <= HEADER {
         return false;
     }
     slot[HEADER] ^= 1;
