@@ -22,18 +22,14 @@ fn start(object: u8, place: usize) -> usize
     requires { place < places }
     ensures { result ≡ slot_from object place }
 {
-    (object as usize * PLACES + place) * SLOT
+    (usize::from(object) * PLACES + place) * SLOT
 }
 
 // The same; none where there is no such place.
 pub fn slot_start(object: u8, place: usize) -> Option<usize>
     ensures { result ≡ (if nat_lt place places then Some (slot_from object place) else None) }
 {
-    if place < PLACES {
-        Some(start(object, place))
-    } else {
-        None
-    }
+    (place < PLACES).then(|| start(object, place))
 }
 
 // The bounds of that slot on a drive of so many bytes.

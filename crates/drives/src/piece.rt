@@ -75,10 +75,8 @@ fn is_named(drive: &[u8], owner: Owner, place: usize, rule: Rule) -> bool
     requires { place < places }
     ensures { result ≡ names_slot rule (read_slot owner.object owner.drive (slot_at drive.now owner.object place)) }
 {
-    match read(slot_of(drive, owner.object, place), owner) {
-        Some(held) => rule.names_version(held.version),
-        None => false,
-    }
+    let held = read(slot_of(drive, owner.object, place), owner);
+    held.is_some_and(|held| rule.names_version(held.version))
 }
 
 // Takes away what a rule names at a place, and says whether it does.
