@@ -46,8 +46,8 @@ fn write_at(drive: &mut [u8], owner: Owner, place: usize, version: u64, piece: &
     ensures answer { result ≡ has_room (slot_at drive.old owner.object place) piece.now }
     ensures after { drive.new ≡ with_slot drive.old owner.object place (written owner.object owner.drive version piece.now (slot_at drive.old owner.object place)) }
 {
-    let (from, to) = bounds(drive.len(), owner.object, place);
-    write(&mut drive[from..to], owner, version, piece)
+    let part = bounds(drive.len(), owner.object, place);
+    write(&mut drive[part], owner, version, piece)
 }
 
 // Writes a piece of a version of an object to the place for it, and says which that is. Refused, nothing changes.
@@ -88,8 +88,8 @@ fn take_at(drive: &mut [u8], owner: Owner, place: usize, rule: Rule) -> bool
     if !is_named(drive, owner, place, rule) {
         return false;
     }
-    let (from, to) = bounds(drive.len(), owner.object, place);
-    clear(&mut drive[from..to], owner);
+    let part = bounds(drive.len(), owner.object, place);
+    clear(&mut drive[part], owner);
     true
 }
 

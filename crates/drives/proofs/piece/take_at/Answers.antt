@@ -12,14 +12,14 @@ returns c =
     let o = c.args.owner.object in
     let d = c.args.owner.drive in
     let k = c.args.place in
-    let e = c.bounds-from.ensures.0 in
-    let f = c.bounds-from.ensures.1 in
+    let e = c.bounds-part.ensures.0 in
+    let f = c.bounds-part.ensures.1 in
     let new = cleared o d (slot_at bytes o k) in
     let named = c.if-not-is_named.ensures in
     record {
       answer = named;
       after =
-          slot_put bytes c.clear.new.slot new o k c.bounds-from.result.0 c.bounds-from.result.1 e f
-          (c.clear.ensures.after ∙ ap (cleared o d) (slot_cut bytes o k c.bounds-from.result.0 c.bounds-from.result.1 e f))
+          slot_put bytes c.clear.new.slot new o k c.bounds-part.result.start c.bounds-part.result.end e f
+          (c.clear.ensures.after ∙ ap (cleared o d) (slot_cut bytes o k c.bounds-part.result.start c.bounds-part.result.end e f))
           ∙ sym (cond-true (names_slot c.args.rule (read_slot o d (slot_at bytes o k))) (with_slot bytes o k new) bytes (sym named));
     }
