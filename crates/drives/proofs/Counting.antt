@@ -18,10 +18,6 @@ pub get_or_readings : (bytes : List ℕ) (o d k : ℕ) → k < 4 → get_or (rea
 unfolding readings
 get_or_readings bytes o d k h = get_or-map-range_with_len (λ i. read_slot o d (slot_at bytes o i)) 0 4 k k empty h (omega arith)
 
--- What is read of a slot's part.
-pub read_at : (bytes slot : List ℕ) (o d k : ℕ) → k < 4 → slot ≡ slot_at bytes o k → read_slot o d slot ≡ get_or (readings bytes o d) k empty
-read_at bytes slot o d k h e = ap (read_slot o d) e ∙ sym (get_or_readings bytes o d k h)
-
 -- What `from_fn` makes, where each call gives what `h` says of its place: each element of the array.
 module _ {F B : Type 0} (g : Mut F (ℕ × Unit {0}) B) (h : ℕ → B) (f : F) (d : B) (ys : List B) where
   made_at : (i m n : ℕ) → i + m ≡ n → ((k : ℕ) (y : B) (q : F) → k < n → Called g f (k, tt) y q → (q ≡ f) × (y ≡ h k)) → IsFromFnResultFrom g f ys i m →

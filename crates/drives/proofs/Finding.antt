@@ -1,11 +1,12 @@
 -- Searches through the places of an object, from the lowest on.
-use Rattle.std.proofs.Common.{◌≡◌, ℕ, ◌+◌, ◌<◌, ◌≤◌, true, false, cond, ◌||◌, eqb, Bool, is_some, List, [], ◌∷◌, length, get_or, drop, Some, None, Option, sym, refl, ap, ◌∙◌, arith}
+use Rattle.std.proofs.Common.{◌≡◌, ℕ, ◌+◌, ◌<◌, ◌≤◌, true, false, cond, ◌||◌, eqb, Bool, is_some, List, [], ◌∷◌, drop, Some, None, Option, sym, refl, ap, ◌∙◌, arith}
 use Rattle.std.specs.Option.{option_map, option_eq}
 use Rattle.std.specs.List.{position, list_any}
 use Rattle.std.proofs.lemmas.Bool.Decides.{nat_tests}
 use Rattle.std.proofs.lemmas.List.{drop_more, drop_all}
-use Rattle.std.proofs.lemmas.Bool.{cond-true, cond-false, eq-eqb, ne_eqb}
-use Rattle.slots.specs.Slot.{Slot, empty, holds}
+use Rattle.slots.specs.Slot.{empty, read_slot}
+use Rattle.drives.specs.Place.{slot_at, readings}
+use Rattle.drives.proofs.Counting.{length_readings, get_or_readings}
 use Rattle.drives.specs.View.{same, index_of, find}
 
 -- `==` says of what two places have whether it is the same.
@@ -36,18 +37,11 @@ pub index_any : (x : Option ℕ) (ys : List (Option ℕ)) → list_any (λ y. op
 index_any x [] = refl
 index_any x (y ∷ ys) = ap (λ b. b || list_any (λ z. option_eq eqb z x) ys) (turned_same x y) ∙ ap (λ b. same x y || b) (index_any x ys) ∙ sym (seen_head (same x y) (index_of x ys))
 
--- The piece of a version, likewise.
-pub find_here : (v w i : ℕ) (p : List ℕ) (ss : List Slot) → find v ss ≡ find v (drop i ss) → i < length ss → holds w p ≡ get_or ss i empty → w ≡ v → Some p ≡ find v ss
-find_here v w i p ss inv h e same =
-    sym (inv ∙ ap (find v) (drop_more ss i empty h ∙ ap (λ s. s ∷ drop (i + 1) ss) (sym e)) ∙ cond-true (eqb w v) (Some p) (find v (drop (i + 1) ss)) (eq-eqb w v same))
+-- The piece of a version: what is left from a place on begins with that place's reading, and past the places there is none.
+pub find_step : (bytes : List ℕ) (o d v k : ℕ) → k < 4 → find v (drop k (readings bytes o d)) ≡ find v (read_slot o d (slot_at bytes o k) ∷ drop (k + 1) (readings bytes o d))
+find_step bytes o d v k h =
+    let long = length_readings bytes o d in
+    ap (find v) (drop_more (readings bytes o d) k empty (omega arith) ∙ ap (λ s. s ∷ drop (k + 1) (readings bytes o d)) (get_or_readings bytes o d k h))
 
-pub find_other : (v w i : ℕ) (p : List ℕ) (ss : List Slot) → find v ss ≡ find v (drop i ss) → i < length ss → holds w p ≡ get_or ss i empty → (w ≡ v → ⊥) →
-    find v ss ≡ find v (drop (i + 1) ss)
-find_other v w i p ss inv h e other =
-    inv ∙ ap (find v) (drop_more ss i empty h ∙ ap (λ s. s ∷ drop (i + 1) ss) (sym e)) ∙ cond-false (eqb w v) (Some p) (find v (drop (i + 1) ss)) (ne_eqb w v other)
-
-pub find_empty : (v i : ℕ) (ss : List Slot) → find v ss ≡ find v (drop i ss) → i < length ss → empty ≡ get_or ss i empty → find v ss ≡ find v (drop (i + 1) ss)
-find_empty v i ss inv h e = inv ∙ ap (find v) (drop_more ss i empty h ∙ ap (λ s. s ∷ drop (i + 1) ss) (sym e))
-
-pub find_all : (v i : ℕ) (ss : List Slot) → find v ss ≡ find v (drop i ss) → length ss ≤ i → None ≡ find v ss
-find_all v i ss inv h = sym (inv ∙ ap (find v) (drop_all i ss h))
+pub find_end : (bytes : List ℕ) (o d v k : ℕ) → 4 ≤ k → find v (drop k (readings bytes o d)) ≡ None
+find_end bytes o d v k h = let long = length_readings bytes o d in ap (find v) (drop_all k (readings bytes o d) (omega arith))
