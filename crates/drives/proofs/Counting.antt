@@ -1,7 +1,11 @@
 -- The readings of an object's places, and which of them count.
-use Rattle.std.proofs.Common.{◌≡◌, ℕ, zero, suc, ◌<◌, Bool, true, false, cond, List, [], ◌∷◌, ◌++◌, map, length, get_or, take, is_some, None, Option, sym, refl, ap, ◌∙◌, arith}
+use Rattle.std.proofs.Common.{◌≡◌, ℕ, zero, suc, ◌+◌, ◌<◌, ◌≤◌, Bool, true, false, cond, List, [], ◌∷◌, ◌++◌, map, length, get_or, take, is_some, None, Option, sym, refl, ap, ◌∙◌, subst, inl, inr, arith}
 use Rattle.std.proofs.lemmas.List.{append-nil, append_assoc, map-id, length-map, ext_get_or}
 use Rattle.std.proofs.lemmas.List.FromFn.{get_or-map-range_with_len, fill_by_all}
+use Rattle.std.specs.Array.{IsFromFnResult, IsFromFnResultFrom}
+use Rattle.std.specs.Fn.{Called}
+use denote.Param.Members.{Mut}
+use Rattle.std.proofs.lemmas.Bool.{cases_eq}
 use Rattle.slots.specs.Slot.{Slot, empty, read_slot}
 use Rattle.drives.specs.Place.{slot_at, readings}
 use Rattle.drives.specs.View.{version_of, index_of, firsts_after, firsts, distinct}
@@ -14,9 +18,20 @@ pub get_or_readings : (bytes : List ℕ) (o d k : ℕ) → k < 4 → get_or (rea
 unfolding readings
 get_or_readings bytes o d k h = get_or-map-range_with_len (λ i. read_slot o d (slot_at bytes o i)) 0 4 k k empty h (omega arith)
 
--- What is read of a slot's part.
-pub read_at : (bytes slot : List ℕ) (o d k : ℕ) → k < 4 → slot ≡ slot_at bytes o k → read_slot o d slot ≡ get_or (readings bytes o d) k empty
-read_at bytes slot o d k h e = ap (read_slot o d) e ∙ sym (get_or_readings bytes o d k h)
+-- What `from_fn` makes, where each call gives what `h` says of its place: each element of the array.
+module _ {F B : Type 0} (g : Mut F (ℕ × Unit {0}) B) (h : ℕ → B) (f : F) (d : B) (ys : List B) where
+  made_at : (i m n : ℕ) → i + m ≡ n → ((k : ℕ) (y : B) (q : F) → k < n → Called g f (k, tt) y q → (q ≡ f) × (y ≡ h k)) → IsFromFnResultFrom g f ys i m →
+      (k : ℕ) → i ≤ k → k < n → get_or ys k d ≡ h k
+  made_at i zero n e each made k low high = absurd (omega arith)
+  made_at i (suc m) n e each (q, y, at, call, rest) k low high =
+      let c = each i y q (omega arith) call in
+      elim (cases_eq i k) [
+        | inl same ↦ ap (λ j. get_or ys j d) (sym same) ∙ at.1 d ∙ c.1 ∙ ap h same
+        | inr other ↦ made_at (i + 1) m n (omega arith) each (subst (λ p. IsFromFnResultFrom g p ys (i + 1) m) c.0 rest) k (omega arith) high
+      ]
+
+  pub made_each : (n : ℕ) → ((k : ℕ) (y : B) (q : F) → k < n → Called g f (k, tt) y q → (q ≡ f) × (y ≡ h k)) → IsFromFnResult g f ys n → (k : ℕ) → k < n → get_or ys k d ≡ h k
+  made_each n each made k high = made_at 0 n n (omega arith) each made.each k (omega arith) high
 
 -- An array that has the version of each place.
 pub readings_filled : (bytes : List ℕ) (o d : ℕ) (xs : List (Option ℕ)) → length xs ≡ 4 →

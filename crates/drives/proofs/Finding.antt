@@ -1,49 +1,47 @@
 -- Searches through the places of an object, from the lowest on.
-use Rattle.std.proofs.Common.{◌≡◌, ℕ, ◌+◌, ◌<◌, ◌≤◌, true, false, eqb, List, ◌∷◌, length, get_or, drop, Some, None, Option, sym, refl, ap, ◌∙◌, arith}
-use Rattle.std.specs.Option.{option_map}
+use Rattle.std.proofs.Common.{◌≡◌, ℕ, ◌+◌, ◌<◌, ◌≤◌, true, false, cond, ◌||◌, eqb, Bool, is_some, List, [], ◌∷◌, drop, Some, None, Option, sym, refl, ap, ◌∙◌, arith}
+use Rattle.std.specs.Option.{option_map, option_eq}
+use Rattle.std.specs.List.{position, list_any}
+use Rattle.std.proofs.lemmas.Bool.Decides.{nat_tests}
 use Rattle.std.proofs.lemmas.List.{drop_more, drop_all}
-use Rattle.std.proofs.lemmas.Bool.{cond-true, cond-false, eq-eqb, ne_eqb}
-use Rattle.slots.specs.Slot.{Slot, empty, holds}
+use Rattle.slots.specs.Slot.{empty, read_slot}
+use Rattle.drives.specs.Place.{slot_at, readings}
+use Rattle.drives.proofs.Counting.{length_readings, get_or_readings}
 use Rattle.drives.specs.View.{same, index_of, find}
 
--- What is left from place `i` on decides where `w` stands.
-abbrev pub Sought : Option ℕ → List (Option ℕ) → ℕ → Type 0
-Sought w xs i = index_of w xs ≡ option_map (λ k. k + i) (index_of w (drop i xs))
+-- `==` says of what two places have whether it is the same.
+equal_same : (x y : Option ℕ) → option_eq eqb x y ≡ same x y
+equal_same None None = refl
+equal_same None (Some w) = refl
+equal_same (Some v) None = refl
+equal_same (Some v) (Some w) = refl
 
-shifted : (i : ℕ) (r : Option ℕ) → option_map (λ k. k + i) (option_map (λ k. k + 1) r) ≡ option_map (λ k. k + (i + 1)) r
-shifted i None = refl
-shifted i (Some k) = let e : k + 1 + i ≡ k + (i + 1) = omega arith in ap Some e
+turned_same : (x y : Option ℕ) → option_eq eqb y x ≡ same x y
+turned_same None None = refl
+turned_same None (Some w) = refl
+turned_same (Some v) None = refl
+turned_same (Some v) (Some w) = grind (arith, nat_tests)
 
-pub sought_here : (w : Option ℕ) (xs : List (Option ℕ)) (i : ℕ) → Sought w xs i → i < length xs → true ≡ same w (get_or xs i None) → Some i ≡ index_of w xs
-sought_here w xs i inv h t =
-    let y = get_or xs i None in
-    let rest = drop (i + 1) xs in
-    let e : 0 + i ≡ i = omega arith in
-    sym (inv ∙ ap (λ l. option_map (λ k. k + i) (index_of w l)) (drop_more xs i None h)
-    ∙ ap (option_map (λ k. k + i)) (cond-true (same w y) (Some 0) (option_map (λ k. k + 1) (index_of w rest)) (sym t)) ∙ ap Some e)
+-- A place is found where the first has the same or a later one does.
+pub seen_head : (b : Bool) (r : Option ℕ) → is_some (cond b (Some 0) (option_map (λ i. i + 1) r)) ≡ (b || is_some r)
+seen_head true r = refl
+seen_head false None = refl
+seen_head false (Some k) = refl
 
-pub sought_more : (w : Option ℕ) (xs : List (Option ℕ)) (i : ℕ) → Sought w xs i → i < length xs → false ≡ same w (get_or xs i None) → Sought w xs (i + 1)
-sought_more w xs i inv h t =
-    let y = get_or xs i None in
-    let rest = drop (i + 1) xs in
-    inv ∙ ap (λ l. option_map (λ k. k + i) (index_of w l)) (drop_more xs i None h)
-    ∙ ap (option_map (λ k. k + i)) (cond-false (same w y) (Some 0) (option_map (λ k. k + 1) (index_of w rest)) (sym t)) ∙ shifted i (index_of w rest)
+-- The first place that has the same, and whether there is one.
+pub index_position : (x : Option ℕ) (ys : List (Option ℕ)) → position (option_eq eqb x) ys ≡ index_of x ys
+index_position x [] = refl
+index_position x (y ∷ ys) = let e = equal_same x y in let i = index_position x ys in grind (arith, nat_tests)
 
-pub sought_all : (w : Option ℕ) (xs : List (Option ℕ)) (i : ℕ) → Sought w xs i → length xs ≤ i → None ≡ index_of w xs
-sought_all w xs i inv h = sym (inv ∙ ap (λ l. option_map (λ k. k + i) (index_of w l)) (drop_all i xs h))
+pub index_any : (x : Option ℕ) (ys : List (Option ℕ)) → list_any (λ y. option_eq eqb y x) ys ≡ is_some (index_of x ys)
+index_any x [] = refl
+index_any x (y ∷ ys) = ap (λ b. b || list_any (λ z. option_eq eqb z x) ys) (turned_same x y) ∙ ap (λ b. same x y || b) (index_any x ys) ∙ sym (seen_head (same x y) (index_of x ys))
 
--- The piece of a version, likewise.
-pub find_here : (v w i : ℕ) (p : List ℕ) (ss : List Slot) → find v ss ≡ find v (drop i ss) → i < length ss → holds w p ≡ get_or ss i empty → w ≡ v → Some p ≡ find v ss
-find_here v w i p ss inv h e same =
-    sym (inv ∙ ap (find v) (drop_more ss i empty h ∙ ap (λ s. s ∷ drop (i + 1) ss) (sym e)) ∙ cond-true (eqb w v) (Some p) (find v (drop (i + 1) ss)) (eq-eqb w v same))
+-- The piece of a version: what is left from a place on begins with that place's reading, and past the places there is none.
+pub find_step : (bytes : List ℕ) (o d v k : ℕ) → k < 4 → find v (drop k (readings bytes o d)) ≡ find v (read_slot o d (slot_at bytes o k) ∷ drop (k + 1) (readings bytes o d))
+find_step bytes o d v k h =
+    let long = length_readings bytes o d in
+    ap (find v) (drop_more (readings bytes o d) k empty (omega arith) ∙ ap (λ s. s ∷ drop (k + 1) (readings bytes o d)) (get_or_readings bytes o d k h))
 
-pub find_other : (v w i : ℕ) (p : List ℕ) (ss : List Slot) → find v ss ≡ find v (drop i ss) → i < length ss → holds w p ≡ get_or ss i empty → (w ≡ v → ⊥) →
-    find v ss ≡ find v (drop (i + 1) ss)
-find_other v w i p ss inv h e other =
-    inv ∙ ap (find v) (drop_more ss i empty h ∙ ap (λ s. s ∷ drop (i + 1) ss) (sym e)) ∙ cond-false (eqb w v) (Some p) (find v (drop (i + 1) ss)) (ne_eqb w v other)
-
-pub find_empty : (v i : ℕ) (ss : List Slot) → find v ss ≡ find v (drop i ss) → i < length ss → empty ≡ get_or ss i empty → find v ss ≡ find v (drop (i + 1) ss)
-find_empty v i ss inv h e = inv ∙ ap (find v) (drop_more ss i empty h ∙ ap (λ s. s ∷ drop (i + 1) ss) (sym e))
-
-pub find_all : (v i : ℕ) (ss : List Slot) → find v ss ≡ find v (drop i ss) → length ss ≤ i → None ≡ find v ss
-find_all v i ss inv h = sym (inv ∙ ap (find v) (drop_all i ss h))
+pub find_end : (bytes : List ℕ) (o d v k : ℕ) → 4 ≤ k → find v (drop k (readings bytes o d)) ≡ None
+find_end bytes o d v k h = let long = length_readings bytes o d in ap (find v) (drop_all k (readings bytes o d) (omega arith))

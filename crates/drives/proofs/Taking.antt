@@ -1,5 +1,5 @@
 -- Pieces taken away place by place.
-use Rattle.std.proofs.Common.{◌≡◌, ℕ, zero, suc, ◌+◌, ◌<◌, ◌≤◌, true, false, cond, List, length, get_or, take, drop, replicate, count_by, sym, refl, ap, ◌∙◌, inl, inr, add-one, arith}
+use Rattle.std.proofs.Common.{◌≡◌, ℕ, zero, suc, ◌+◌, ◌<◌, ◌≤◌, true, false, cond, List, length, get_or, take, drop, replicate, count_by, sym, refl, ap, ◌∙◌, inl, inr, arith}
 use Rattle.std.proofs.lemmas.List.{length-append, length-replicate, length-drop}
 use Rattle.std.proofs.lemmas.List.Sums.{count_by_more_yes, count_by_more_no}
 use Rattle.std.proofs.lemmas.Bool.{cases_Bool, cases_eq, cond-true, cond-false}
@@ -45,11 +45,7 @@ pub named_still : (bytes : List ℕ) (o d i : ℕ) (rule : Rule) → i < 4 →
     names_slot rule (read_slot o d (slot_at (taken_below i bytes o d rule) o i)) ≡ names_slot rule (get_or (readings bytes o d) i empty)
 named_still bytes o d i rule h = ap (λ s. names_slot rule (read_slot o d s)) (below_apart bytes o d i i rule (omega arith) h) ∙ ap (names_slot rule) (sym (get_or_readings bytes o d i h))
 
--- One place more.
-pub taken_more : (bytes last : List ℕ) (o d i : ℕ) (rule : Rule) → last ≡ taken_at (taken_below i bytes o d rule) o d i rule → last ≡ taken_below (i + 1) bytes o d rule
-unfolding taken_below
-taken_more bytes last o d i rule e = e ∙ ap (λ n. taken_below n bytes o d rule) (sym (add-one i))
-
+-- How many are named, one place on.
 pub count_yes : (bytes : List ℕ) (o d i n : ℕ) (rule : Rule) → i < 4 → true ≡ names_slot rule (read_slot o d (slot_at (taken_below i bytes o d rule) o i)) →
     n ≡ count_by (names_slot rule) (take i (readings bytes o d)) → n + 1 ≡ count_by (names_slot rule) (take (i + 1) (readings bytes o d))
 count_yes bytes o d i n rule h t e =

@@ -4,6 +4,7 @@ ghost use Rattle.slots.specs.Layout.{slot_size};
 ghost use Rattle.drives.specs.Place.{places, objects, slot_from, slot_at};
 
 use slots::SLOT;
+use std::ops::Range;
 
 // How many places a drive has for an object, and how many objects there are. Both will grow: nothing else says them in the code.
 pub const PLACES: usize = 4;
@@ -22,27 +23,23 @@ fn start(object: u8, place: usize) -> usize
     requires { place < places }
     ensures { result ≡ slot_from object place }
 {
-    (object as usize * PLACES + place) * SLOT
+    (usize::from(object) * PLACES + place) * SLOT
 }
 
 // The same; none where there is no such place.
 pub fn slot_start(object: u8, place: usize) -> Option<usize>
     ensures { result ≡ (if nat_lt place places then Some (slot_from object place) else None) }
 {
-    if place < PLACES {
-        Some(start(object, place))
-    } else {
-        None
-    }
+    (place < PLACES).then(|| start(object, place))
 }
 
-// The bounds of that slot on a drive of so many bytes.
-pub(crate) fn bounds(len: usize, object: u8, place: usize) -> (usize, usize)
+// The bytes of that slot on a drive of so many bytes.
+pub(crate) fn bounds(len: usize, object: u8, place: usize) -> Range<usize>
     requires { place < places }
-    ensures { (result.0 ≡ min (slot_from object place) len) × (result.1 ≡ min (slot_from object place + slot_size) len) }
+    ensures { (result.start ≡ min (slot_from object place) len) × (result.end ≡ min (slot_from object place + slot_size) len) }
 {
     let from = start(object, place);
-    (from.min(len), (from + SLOT).min(len))
+    from.min(len)..(from + SLOT).min(len)
 }
 
 // That slot's part of a lent drive; what lies past the drive's end isn't there.
@@ -50,6 +47,5 @@ pub(crate) fn slot_of(drive: &[u8], object: u8, place: usize) -> &[u8]
     requires { place < places }
     ensures { result.now ≡ slot_at drive.now object place }
 {
-    let (from, to) = bounds(drive.len(), object, place);
-    &drive[from..to]
+    &drive[bounds(drive.len(), object, place)]
 }

@@ -20,6 +20,7 @@ pub enum Unwritten {
 }
 
 // The piece of a version of an object on a drive, still in the drive's bytes.
+#[tactic(auto, using(crate::proofs::Finding::find_step, crate::proofs::Finding::find_end))]
 pub fn find_piece(drive: &[u8], owner: Owner, version: u64) -> Option<&[u8]>
     ensures { option_map (λ x. x.now) result ≡ find version (readings drive.now owner.object owner.drive) }
 {
@@ -41,16 +42,18 @@ pub fn place_for(drive: &[u8], owner: Owner, version: u64) -> Option<usize>
 }
 
 // Writes a piece of a version at a place, and leaves every other slot. False, and nothing changes, where there is no room for it.
+#[tactic(auto, using(crate::proofs::Standing::slot_cut, crate::proofs::Standing::slot_put))]
 fn write_at(drive: &mut [u8], owner: Owner, place: usize, version: u64, piece: &[u8]) -> bool
     requires { place < places }
     ensures answer { result ≡ has_room (slot_at drive.old owner.object place) piece.now }
     ensures after { drive.new ≡ with_slot drive.old owner.object place (written owner.object owner.drive version piece.now (slot_at drive.old owner.object place)) }
 {
-    let (from, to) = bounds(drive.len(), owner.object, place);
-    write(&mut drive[from..to], owner, version, piece)
+    let part = bounds(drive.len(), owner.object, place);
+    write(&mut drive[part], owner, version, piece)
 }
 
 // Writes a piece of a version of an object to the place for it, and says which that is. Refused, nothing changes.
+#[tactic(auto, using(crate::proofs::Placing::place_below, crate::proofs::Placing::answer_full))]
 pub fn write_piece(
     drive: &mut [u8],
     owner: Owner,
@@ -75,13 +78,12 @@ fn is_named(drive: &[u8], owner: Owner, place: usize, rule: Rule) -> bool
     requires { place < places }
     ensures { result ≡ names_slot rule (read_slot owner.object owner.drive (slot_at drive.now owner.object place)) }
 {
-    match read(slot_of(drive, owner.object, place), owner) {
-        Some(held) => rule.names_version(held.version),
-        None => false,
-    }
+    let held = read(slot_of(drive, owner.object, place), owner);
+    held.is_some_and(|held| rule.names_version(held.version))
 }
 
 // Takes away what a rule names at a place, and says whether it does.
+#[tactic(auto, using(crate::proofs::Standing::slot_cut, crate::proofs::Standing::slot_put))]
 fn take_at(drive: &mut [u8], owner: Owner, place: usize, rule: Rule) -> bool
     requires { place < places }
     ensures answer { result ≡ names_slot rule (read_slot owner.object owner.drive (slot_at drive.old owner.object place)) }
@@ -90,12 +92,13 @@ fn take_at(drive: &mut [u8], owner: Owner, place: usize, rule: Rule) -> bool
     if !is_named(drive, owner, place, rule) {
         return false;
     }
-    let (from, to) = bounds(drive.len(), owner.object, place);
-    clear(&mut drive[from..to], owner);
+    let part = bounds(drive.len(), owner.object, place);
+    clear(&mut drive[part], owner);
     true
 }
 
 // Takes away all pieces of an object that a rule names, copies too, and says how many.
+#[tactic(auto, using(crate::proofs::Taking::count_yes, crate::proofs::Taking::count_no), unfolding(crate::specs::Steps::taken_below))]
 pub fn take_away(drive: &mut [u8], owner: Owner, rule: Rule) -> usize
     ensures answer { result ≡ how_many_named drive.old owner.object owner.drive rule }
     ensures after { drive.new ≡ after_taking drive.old owner.object owner.drive rule }

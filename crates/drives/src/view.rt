@@ -6,38 +6,20 @@ ghost use Rattle.drives.specs.View.{same, index_of, firsts, place_in, version_of
 
 use crate::layout::{PLACES, slot_of};
 use slots::{Owner, read};
-
-// Whether two places have the same.
-fn is_same(x: Option<u64>, y: Option<u64>) -> bool
-    ensures { result ≡ same x y }
-{
-    match (x, y) {
-        (None, None) => true,
-        (Some(v), Some(w)) => v == w,
-        _ => false,
-    }
-}
+use std::array;
 
 // The lowest place at which `wanted` stands.
 fn index_of(wanted: Option<u64>, versions: &[Option<u64>]) -> Option<usize>
     ensures { result ≡ index_of wanted versions.now }
 {
-    for (place, version) in versions.iter().enumerate() {
-        if is_same(wanted, *version) {
-            return Some(place);
-        }
-    }
-    None
+    versions.iter().position(|version| wanted == *version)
 }
 
 // The place for a version where these versions count: its own, else the lowest free one; none where all have other versions.
 pub fn place_in(version: u64, versions: &[Option<u64>]) -> Option<usize>
     ensures { result ≡ place_in version versions.now }
 {
-    match index_of(Some(version), versions) {
-        Some(place) => Some(place),
-        None => index_of(None, versions),
-    }
+    index_of(Some(version), versions).or_else(|| index_of(None, versions))
 }
 
 // The version that the slot at a place has, whether or not it counts.
@@ -45,21 +27,14 @@ fn version_at(drive: &[u8], owner: Owner, place: usize) -> Option<u64>
     requires { place < places }
     ensures { result ≡ version_of (read_slot owner.object owner.drive (slot_at drive.now owner.object place)) }
 {
-    match read(slot_of(drive, owner.object, place), owner) {
-        Some(held) => Some(held.version),
-        None => None,
-    }
+    Some(read(slot_of(drive, owner.object, place), owner)?.version)
 }
 
 // The versions at all places, whether or not they count.
 fn all_versions(drive: &[u8], owner: Owner) -> [Option<u64>; PLACES]
     ensures { result ≡ map version_of (readings drive.now owner.object owner.drive) }
 {
-    let mut found = [None; PLACES];
-    for place in 0..PLACES {
-        found[place] = version_at(drive, owner, place);
-    }
-    found
+    array::from_fn(|place| version_at(drive, owner, place))
 }
 
 // The version that counts at a place: none where an earlier place has it.
@@ -67,9 +42,10 @@ fn first_at(all: &[Option<u64>], place: usize) -> Option<u64>
     requires { place < length all.now }
     ensures { result ≡ slice_index_or (firsts all.now) place None }
 {
-    match index_of(all[place], &all[0..place]) {
-        Some(_) => None,
-        None => all[place],
+    if all[..place].contains(&all[place]) {
+        None
+    } else {
+        all[place]
     }
 }
 
@@ -78,9 +54,5 @@ pub fn versions(drive: &[u8], owner: Owner) -> [Option<u64>; PLACES]
     ensures { result ≡ map version_of (distinct (readings drive.now owner.object owner.drive)) }
 {
     let all = all_versions(drive, owner);
-    let mut counted = [None; PLACES];
-    for place in 0..PLACES {
-        counted[place] = first_at(&all, place);
-    }
-    counted
+    array::from_fn(|place| first_at(&all, place))
 }

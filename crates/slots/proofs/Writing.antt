@@ -1,10 +1,9 @@
 -- A record written front to back, field by field.
-use Rattle.std.proofs.Common.{◌≡◌, ℕ, ◌+◌, ◌<◌, ◌≤◌, true, false, leb, List, [], ◌∷◌, ◌++◌, length, take, drop, Some, None, sym, refl, ap, ◌∙◌, inl, inr, arith}
-use borrow.Rule.Slice.PartMut.{post_of}
+use Rattle.std.proofs.Common.{◌≡◌, ℕ, ◌+◌, ◌≤◌, true, false, leb, List, [], ◌++◌, length, take, drop, Some, None, sym, refl, ap, ◌∙◌, inl, inr, arith}
 use Rattle.std.proofs.lemmas.List.{append_assoc, take_at, drop_at, drop-drop, length-append, length-drop}
-use Rattle.std.proofs.lemmas.Bool.{leb-true, leb-false, le-leb, lt-leb, cond-true, cond-false, and_from, and_parts, and_left, and_right, cases_Bool}
+use Rattle.std.proofs.lemmas.Bool.{leb-true, le-leb, cond-true, cond-false, and_from, and_parts, cases_Bool}
 use Rattle.slots.specs.Adler.{adler}
-use Rattle.slots.specs.Layout.{piece_room, around, bytes_of, header_of, body_of, record_of, record_room, record_for, put_at}
+use Rattle.slots.specs.Layout.{piece_room, around, bytes_of, header_of, body_of, record_of, record_room, put_at}
 use Rattle.slots.specs.Slot.{has_room, written}
 
 -- A field put right behind a front that is written already.
@@ -22,22 +21,9 @@ room_some n end e =
       | inr t ↦ (let f = cond-false (leb n piece_room) (Some (around + n)) None t in let z : ◌≡◌ {A = ℕ} 0 1 = cc in absurd (omega arith))
     ]
 
-pub room_none : (n : ℕ) → None ≡ record_room n → piece_room < n
-room_none n e =
-    elim (cases_Bool (leb n piece_room)) [
-      | inl t ↦ (let f = cond-true (leb n piece_room) (Some (around + n)) None t in let z : ◌≡◌ {A = ℕ} 0 1 = cc in absurd (omega arith))
-      | inr t ↦ leb-false n piece_room t
-    ]
-
 -- Whether there is room.
 pub has_room_lem : (bytes p : List ℕ) → length p ≤ piece_room → around + length p ≤ length bytes → true ≡ has_room bytes p
 has_room_lem bytes p a b = sym (and_from (leb (length p) piece_room) (leb (around + length p) (length bytes)) (le-leb (length p) piece_room a) (le-leb (around + length p) (length bytes) b))
-
-pub no_piece_room : (bytes p : List ℕ) → piece_room < length p → false ≡ has_room bytes p
-no_piece_room bytes p a = sym (and_left (leb (length p) piece_room) (leb (around + length p) (length bytes)) (lt-leb (length p) piece_room a))
-
-pub no_place_room : (bytes p : List ℕ) → length bytes < around + length p → false ≡ has_room bytes p
-no_place_room bytes p a = sym (and_right (leb (length p) piece_room) (leb (around + length p) (length bytes)) (lt-leb (around + length p) (length bytes) a))
 
 -- Without room nothing is written.
 pub written_none : (o d v : ℕ) (p bytes : List ℕ) → false ≡ has_room bytes p → bytes ≡ written o d v p bytes
@@ -60,23 +46,6 @@ written_put o d v n sum p s s₁ s₂ s₃ room en e₁ e₂ es e₃ =
     let back : n + 4 ≡ around + length p = omega arith in
     f₃ ∙ front_put s body (bytes_of 4 (adler body)) n long ∙ ap (λ i. (body ++ bytes_of 4 (adler body)) ++ drop i s) back
     ∙ sym (cond-true (has_room s p) ((body ++ bytes_of 4 (adler body)) ++ drop (around + length p) s) s (sym room))
-
--- The header's two numbers copied into their places.
-pub header_copied : (o d v n : ℕ) (vs ls : List ℕ) → vs ≡ bytes_of 8 v → ls ≡ bytes_of 4 n →
-    87 ∷ o ∷ d ∷ (take 8 (vs ++ (0 ∷ 0 ∷ 0 ∷ 0 ∷ [])) ++ (ls ++ post_of 11 4 (87 ∷ o ∷ d ∷ (vs ++ (0 ∷ 0 ∷ 0 ∷ 0 ∷ []))))) ≡ header_of o d v n
-header_copied o d v n vs ls e f =
-    ap (λ l. 87 ∷ o ∷ d ∷ (take 8 (l ++ (0 ∷ 0 ∷ 0 ∷ 0 ∷ [])) ++ (ls ++ post_of 11 4 (87 ∷ o ∷ d ∷ (l ++ (0 ∷ 0 ∷ 0 ∷ 0 ∷ [])))))) e
-    ∙ ap (λ l. 87 ∷ o ∷ d ∷ (bytes_of 8 v ++ (l ++ []))) f
-
--- The same three in bytes of their own.
-pub encoded : (o d v sum : ℕ) (p head tail items : List ℕ) → length p ≤ piece_room → head ≡ header_of o d v (length p) → sum ≡ adler (head ++ p) → tail ≡ bytes_of 4 sum →
-    items ≡ (head ++ p) ++ tail → Some items ≡ record_for o d v p
-unfolding record_of
-encoded o d v sum p head tail items room eh es et e =
-    let body = body_of o d v p in
-    let fs : sum ≡ adler body = es ∙ ap (λ h. adler (h ++ p)) eh in
-    let f : items ≡ body ++ bytes_of 4 (adler body) = e ∙ ap (λ h. (h ++ p) ++ tail) eh ∙ ap (λ t. body ++ t) (et ∙ ap (λ x. bytes_of 4 x) fs) in
-    ap Some f ∙ sym (cond-true (leb (length p) piece_room) (Some (body ++ bytes_of 4 (adler body))) None (le-leb (length p) piece_room room))
 
 -- How long a record is, what room means, and that a written place is as long as it was.
 pub length_record : (o d v : ℕ) (p : List ℕ) → length (record_of o d v p) ≡ around + length p

@@ -96,6 +96,7 @@ fn read_header(slot: &[u8]) -> Option<Header>
 }
 
 // What a slot's bytes hold for an object and a drive. What doesn't fit, has a wrong sum, or is another object's or another drive's isn't there.
+#[tactic(auto, unfolding(crate::specs::Slot::fits, crate::specs::Slot::read_slot))]
 pub fn read(slot: &[u8], owner: Owner) -> Option<Held<'_>>
     ensures { reading result ≡ read_slot owner.object owner.drive slot.now }
 {
@@ -115,6 +116,7 @@ pub fn read(slot: &[u8], owner: Owner) -> Option<Held<'_>>
 }
 
 // What stands before a piece, in bytes.
+#[tactic(auto, using(crate::proofs::Numbers::bytes8, crate::proofs::Numbers::bytes4))]
 fn header_bytes(owner: Owner, version: u64, len: u32) -> [u8; HEADER]
     ensures { result ≡ header_of owner.object owner.drive version len }
 {
@@ -149,6 +151,7 @@ fn put(slot: &mut [u8], at: usize, field: &[u8])
 }
 
 // Writes a piece's record at the front of a slot's place, and leaves what lies behind it. Where the place, or a slot, has no room for it: false, and nothing changes.
+#[tactic(auto, unfolding(crate::specs::Slot::written))]
 pub fn write(slot: &mut [u8], owner: Owner, version: u64, piece: &[u8]) -> bool
     ensures answer { result ≡ has_room slot.old piece.now }
     ensures after { slot.new ≡ written owner.object owner.drive version piece.now slot.old }
@@ -167,6 +170,7 @@ pub fn write(slot: &mut [u8], owner: Owner, version: u64, piece: &[u8]) -> bool
 }
 
 // Takes away what a slot holds for an object and a drive: zeros over its whole record. False, and nothing changes, where it holds nothing.
+#[tactic(auto, using(crate::proofs::Clearing::held_within, crate::proofs::Clearing::cleared_filled), unfolding(crate::specs::Slot::cleared))]
 pub fn clear(slot: &mut [u8], owner: Owner) -> bool
     ensures answer { result ≡ is_held (read_slot owner.object owner.drive slot.old) }
     ensures after { slot.new ≡ cleared owner.object owner.drive slot.old }
@@ -180,6 +184,7 @@ pub fn clear(slot: &mut [u8], owner: Owner) -> bool
 }
 
 // A piece's record in bytes of its own; none where a slot has no room for it.
+#[tactic(auto, unfolding(crate::specs::Layout::record_of))]
 pub fn encode(
     heap: Global,
     owner: Owner,

@@ -9,6 +9,7 @@ const MODULUS: u32 = 65_521;
 const BLOCK: usize = 2048;
 
 // Adler's sum of bytes.
+#[tactic(auto, unfolding(crate::specs::Adler::sums, crate::specs::Adler::adler))]
 pub fn adler(bytes: &[u8]) -> u32
     ensures { result ≡ adler_of bytes.now }
 {
@@ -21,6 +22,7 @@ pub fn adler(bytes: &[u8]) -> u32
 }
 
 // The two sums with a block's bytes added, reduced once at its end.
+#[tactic(auto, using(crate::proofs::Adding::onward_more))]
 fn add_block(first: u32, second: u32, block: &[u8]) -> (u32, u32)
     requires { (first < 65521) × ((second < 65521) × (length block.now ≤ 2048)) }
     ensures { Carried first second block.now result.0 result.1 }

@@ -1,18 +1,16 @@
-use Rattle.std.proofs.Common.{◌≡◌, ◌-◌, cond, get_or, take, is_some, None, sym, ap, ◌∙◌, arith}
-use Rattle.drives.specs.View.{index_of}
+use Rattle.std.proofs.Common.{cond, get_or, take, None, sym, ap, ◌∙◌}
 use Rattle.drives.proofs.Counting.{get_or_firsts}
+use Rattle.drives.proofs.Finding.{index_any}
 use Rattle.drives.proofs.view.first_at.Goals as goal
 
-pub returns-in-Some : goal.returns-in-Some
-returns-in-Some c =
+pub returns-then-contains : goal.returns-then-contains
+returns-then-contains c =
     let all = c.args.all.now in
     let x = get_or all c.args.place None in
-    let e : c.args.place - 0 ≡ c.args.place = omega arith in
-    sym (get_or_firsts all c.args.place c.requires ∙ ap (λ r. cond (is_some r) None x) (sym (c.in-Some.ensures ∙ ap (λ n. index_of x (take n all)) e)))
+    sym (get_or_firsts all c.args.place c.requires ∙ ap (λ b. cond b None x) (sym (index_any x (take c.args.place all)) ∙ sym c.contains.ensures.value ∙ c.if-contains.true))
 
-pub returns-in-None : goal.returns-in-None
-returns-in-None c =
+pub returns-else-contains : goal.returns-else-contains
+returns-else-contains c =
     let all = c.args.all.now in
     let x = get_or all c.args.place None in
-    let e : c.args.place - 0 ≡ c.args.place = omega arith in
-    sym (get_or_firsts all c.args.place c.requires ∙ ap (λ r. cond (is_some r) None x) (sym (c.in-None.ensures ∙ ap (λ n. index_of x (take n all)) e)))
+    sym (get_or_firsts all c.args.place c.requires ∙ ap (λ b. cond b None x) (sym (index_any x (take c.args.place all)) ∙ sym c.contains.ensures.value ∙ c.if-contains.false))

@@ -1,11 +1,11 @@
-use Rattle.drives.proofs.Finding.{sought_here, sought_more, sought_all}
+use Rattle.std.proofs.Common.{◌∙◌, eqb, rules, tests}
+use Rattle.std.specs.Option.{option_eq}
+use Rattle.std.proofs.lemmas.Iterator.{YieldsList-from_slice}
+use Rattle.std.proofs.lemmas.Iterator.Search.{position_from_yields_List}
+use Rattle.drives.proofs.Finding.{index_position}
 use Rattle.drives.proofs.view.index_of.Goals as goal
 
-pub returns-then-is_same : goal.returns-then-is_same
-returns-then-is_same c = sought_here c.args.wanted c.args.versions.now c.loop-place.place c.loop-place.invariant c.loop-place-test.true c.if-is_same.ensures
-
-pub loop-place-preserved : goal.loop-place-preserved
-loop-place-preserved c = sought_more c.args.wanted c.args.versions.now c.loop-place.place c.loop-place.invariant c.loop-place-test.true c.if-is_same.ensures
-
 pub returns : goal.returns
-returns c = sought_all c.args.wanted c.args.versions.now c.loop-place.place c.loop-place.invariant c.loop-place-test.false
+returns c =
+    position_from_yields_List (option_eq eqb c.args.wanted) _ _ _ c.position.ensures.ran (YieldsList-from_slice c.args.versions.now cc) (λ x b q k. search (rules, tests))
+    ∙ index_position c.args.wanted c.args.versions.now

@@ -1,9 +1,11 @@
-use Rattle.std.proofs.Common.{arith}
-use Rattle.drives.proofs.Counting.{firsts_filled}
+use Rattle.std.proofs.Common.{get_or, None, rules, tests}
+use Rattle.drives.specs.View.{firsts}
+use Rattle.drives.proofs.Counting.{made_each, firsts_filled}
 use Rattle.drives.proofs.view.versions.Goals as goal
 
 pub returns : goal.returns
 returns c =
-    let inv = c.loop-place.invariant in
-    firsts_filled c.args.drive.now c.args.owner.object c.args.owner.drive c.all_versions-all.result c.loop-place.counted c.all_versions-all.ensures inv.0
-    (λ k h. inv.1 k (omega arith))
+    let made = c.from_fn.ensures.items in
+    let all = c.all_versions-all.result in
+    firsts_filled c.args.drive.now c.args.owner.object c.args.owner.drive all c.from_fn.result c.all_versions-all.ensures made.long
+    (made_each _ (λ k. get_or (firsts all) k None) _ None _ 4 (λ k y q h e. search (rules, tests)) made)
