@@ -4,11 +4,11 @@ use Rattle.std.proofs.lemmas.List.{append_assoc}
 use Rattle.elimination.specs.Matrix.{blocks, row_of, powers}
 use Rattle.elimination.proofs.Blocks.{blocks_more}
 use Rattle.elimination.proofs.Cells.{row_within}
-use Rattle.elimination.proofs.building.matrix.Goals as goal
+use Rattle.elimination.proofs.building.rows_of.Goals as goal
 
 pub loop-i-init : goal.loop-i-init
 unfolding blocks
-loop-i-init c = c.in_ok-m.ensures.items
+loop-i-init c = c.in_ok-cells.ensures.items
 
 pub slice_bounds-extend_from_slice-end : goal.slice_bounds-extend_from_slice-end
 slice_bounds-extend_from_slice-end c =
