@@ -1,12 +1,12 @@
 -- Blocks of one length, one after the other: where each stands, and that they make up the list.
-use Rattle.std.proofs.Common.{◌≡◌, ℕ, zero, suc, ◌+◌, ◌-◌, ◌*◌, ◌/◌, ◌%◌, ◌<◌, ◌≤◌, List, [], ◌∷◌, ◌++◌, map, length, get_or, take, drop, sym, ap, ◌∙◌, inl, inr, mul-le-mul_right, suc-mul, div-add-mod', zero-mul, add-one, arith}
+use Rattle.std.proofs.Common.{◌≡◌, ℕ, zero, suc, ◌+◌, ◌-◌, ◌*◌, ◌/◌, ◌%◌, ◌<◌, ◌≤◌, List, [], ◌∷◌, ◌++◌, map, length, get_or, take, drop, sym, ap, ap₂, ◌∙◌, inl, inr, mul-le-mul_right, suc-mul, div-add-mod', zero-mul, add-one, arith}
 use Rattle.std.specs.List.{range_with_len, AllByRecursion}
 use Rattle.std.proofs.lemmas.List.{length-append, take-append-le, drop-append-le, drop_at, take_all, get_or-take, get_or-drop, ext_get_or, length-drop, append_assoc}
 use Rattle.std.proofs.lemmas.List.FromFn.{map-range_with_len_more}
 use Rattle.std.proofs.ByRecursion.{All-append}
 use Rattle.std.proofs.lemmas.Nat.{div_below, mod_below}
 use Rattle.std.proofs.lemmas.Bool.{cases_lt}
-use Rattle.elimination.specs.Matrix.{blocks}
+use Rattle.elimination.specs.Matrix.{blocks, column}
 
 module _ (f : ℕ → List ℕ) (w : ℕ) where
   pub length_blocks : (n : ℕ) → ((i : ℕ) → i < n → length (f i) ≡ w) → length (blocks f n) ≡ n * w
@@ -71,3 +71,12 @@ blocks_more f n = rw add-one
 
 pub counted_more : (s : List ℕ) (f : ℕ → ℕ) (t : ℕ) → (s ++ map f (range_with_len 0 t)) ++ f t ∷ [] ≡ s ++ map f (range_with_len 0 (t + 1))
 counted_more s f t = append_assoc s (map f (range_with_len 0 t)) (f t ∷ []) ∙ ap (λ (l : List ℕ). s ++ l) (sym (map-range_with_len_more f 0 t t (omega arith)))
+
+-- One of the columns past the first k more, where the columns are counted from the first of all.
+pub columns_more : (k w c : ℕ) (m : List ℕ) → k ≤ c → c < w → let f : ℕ → List ℕ = λ r. column k (k + (w - k)) m (k + r) in blocks f (c - k) ++ column k w m c ≡ blocks f (c + 1 - k)
+columns_more k w c m low high =
+    let f : ℕ → List ℕ = λ r. column k (k + (w - k)) m (k + r) in
+    let wide : w ≡ k + (w - k) = omega arith in
+    let place : c ≡ k + (c - k) = omega arith in
+    let next : c - k + 1 ≡ c + 1 - k = omega arith in
+    ap₂ (λ n t. blocks f (c - k) ++ column k n m t) wide place ∙ blocks_more f (c - k) ∙ ap (blocks f) next

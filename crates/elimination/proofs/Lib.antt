@@ -5,3 +5,4 @@ pub mod Blocks
 pub mod Points
 pub mod Solution
 pub mod Cells
+pub mod Shapes

@@ -1,8 +1,8 @@
 -- Points: members and places, when none stands twice, and when nothing is to be refused.
-use Rattle.std.proofs.Common.{◌≡◌, ℕ, zero, suc, ◌+◌, ◌-◌, ◌%◌, ◌<◌, ◌≤◌, Bool, true, false, cond, ◌||◌, eqb, List, [], ◌∷◌, length, get_or, take, drop, sym, refl, ap, ◌∙◌, inl, inr, arith, w8, Fits}
+use Rattle.std.proofs.Common.{◌≡◌, ℕ, zero, suc, ◌%◌, ◌<◌, Bool, true, false, cond, ◌||◌, eqb, List, [], ◌∷◌, length, get_or, sym, refl, ap, ◌∙◌, inl, inr, arith, w8, Fits}
 use mathlib.Core.List.Memᴰ
 use mathlib.Core.List.{Memᴰ}
-use Rattle.std.proofs.lemmas.List.{at_drop_more, at_drop_all, take_rest}
+use Rattle.std.specs.List.{list_any}
 use Rattle.std.proofs.ByRecursion.{All-from_get_or}
 use Rattle.std.proofs.lemmas.Bool.{or_parts, or_from, or_left, eqb-false, ne_eqb, eq-eqb, cond-true, cond-false}
 use Rattle.byte_field.specs.Byte.{IsByte}
@@ -48,37 +48,26 @@ unfolding repeated
 distinct_repeated [] d = refl
 distinct_repeated (x ∷ xs) d = or_from (is_in x xs) (repeated xs) (in_not x xs d.0) (distinct_repeated xs d.1)
 
--- What a search through the points finds at a place, and that it can go on behind it.
-in_step : (x : ℕ) (s : List ℕ) (i : ℕ) → i < length s → is_in x (drop i s) ≡ (eqb (get_or s i 0) x || is_in x (drop (i + 1) s))
+-- `contains` asks what `is_in` asks.
+contains_is : (x : ℕ) (ys : List ℕ) → list_any (λ y. eqb y x) ys ≡ is_in x ys
 unfolding is_in
-in_step x s i h = at_drop_more (is_in x) s i 0 h
+contains_is x [] = refl
+contains_is x (y ∷ ys) = ap (λ b. eqb y x || b) (contains_is x ys)
 
-pub in_here : (x : ℕ) (s : List ℕ) (i : ℕ) → i < length s → get_or s i 0 ≡ x → is_in x (drop i s) ≡ true
-in_here x s i h e = in_step x s i h ∙ or_left (eqb (get_or s i 0) x) (is_in x (drop (i + 1) s)) (eq-eqb (get_or s i 0) x e)
+-- What a search through the points finds at the first of those that are left, and that it can go on behind it.
+module _ (left : List ℕ) (x : ℕ) (behind : List ℕ) (is : left ≡ x ∷ behind) where
+  pub repeated_here : true ≡ list_any (λ y. eqb y x) behind → repeated left ≡ true
+  unfolding repeated
+  repeated_here h = ap repeated is ∙ or_left (is_in x behind) (repeated behind) (sym (h ∙ contains_is x behind))
 
-pub in_more : (x : ℕ) (s : List ℕ) (i : ℕ) → i < length s → (get_or s i 0 ≡ x → ⊥) → is_in x (drop (i + 1) s) ≡ is_in x (drop i s)
-in_more x s i h ne = sym (in_step x s i h ∙ ap (λ (t : Bool). t || is_in x (drop (i + 1) s)) (ne_eqb (get_or s i 0) x ne))
+  pub repeated_more : false ≡ list_any (λ y. eqb y x) behind → repeated behind ≡ repeated left
+  unfolding repeated
+  repeated_more h = sym (ap repeated is ∙ ap (λ (t : Bool). t || repeated behind) (sym (h ∙ contains_is x behind)))
 
-pub in_none : (x : ℕ) (s : List ℕ) (i : ℕ) → length s ≤ i → is_in x (drop i s) ≡ false
-unfolding is_in
-in_none x s i h = at_drop_all (is_in x) s i h
-
--- The same of the search for a point that stands twice; the points behind one are a part up to the end.
-repeated_step : (s : List ℕ) (i : ℕ) → i < length s → repeated (drop i s) ≡ (is_in (get_or s i 0) (take (length s - (i + 1)) (drop (i + 1) s)) || repeated (drop (i + 1) s))
+pub repeated_none : (left : List ℕ) → length left ≡ 0 → repeated left ≡ false
 unfolding repeated
-repeated_step s i h =
-    at_drop_more repeated s i 0 h ∙ ap (λ (l : List ℕ). is_in (get_or s i 0) l || repeated (drop (i + 1) s)) (sym (take_rest s (i + 1)))
-
-pub repeated_here : (s : List ℕ) (i : ℕ) → i < length s → is_in (get_or s i 0) (take (length s - (i + 1)) (drop (i + 1) s)) ≡ true → repeated (drop i s) ≡ true
-repeated_here s i h e = repeated_step s i h ∙ or_left (is_in (get_or s i 0) (take (length s - (i + 1)) (drop (i + 1) s))) (repeated (drop (i + 1) s)) e
-
-pub repeated_more :
-    (s : List ℕ) (i : ℕ) → i < length s → is_in (get_or s i 0) (take (length s - (i + 1)) (drop (i + 1) s)) ≡ false → repeated (drop (i + 1) s) ≡ repeated (drop i s)
-repeated_more s i h e = sym (repeated_step s i h ∙ ap (λ (t : Bool). t || repeated (drop (i + 1) s)) e)
-
-pub repeated_none : (s : List ℕ) (i : ℕ) → length s ≤ i → repeated (drop i s) ≡ false
-unfolding repeated
-repeated_none s i h = at_drop_all repeated s i h
+repeated_none [] e = refl
+repeated_none (x ∷ xs) e = absurd (omega arith)
 
 -- What is known of the elements of a slice of bytes, as a fact on the list.
 pub typed_bytes : (xs : List ℕ) → ((i : ℕ) → Fits w8 (get_or xs i 0)) → Bytes xs

@@ -1,5 +1,5 @@
 -- From the matrix of powers and values to the coefficients: the columns are independent, the reduced matrix has the solution, and it is the only one.
-use Rattle.std.proofs.Common.{◌≡◌, ℕ, suc, ◌+◌, ◌-◌, ◌*◌, ◌/◌, ◌<◌, ◌≤◌, List, length, get_or, take, drop, sym, ap, ◌∙◌, subst, subst₂, mul-le-mul_right, suc-mul, mul_comm, arith}
+use Rattle.std.proofs.Common.{◌≡◌, ℕ, suc, ◌+◌, ◌-◌, ◌*◌, ◌/◌, ◌<◌, ◌≤◌, List, length, get_or, take, drop, sym, ap, ◌∙◌, subst, subst₂, ap₂, mul-le-mul_right, suc-mul, mul_comm, arith}
 use mathlib.Core.List.{Memᴰ}
 use native.Mathlib.Nat.{mul-div_cancel_left}
 use Rattle.std.proofs.lemmas.List.{length-append, length-take-le, length-drop, get_or_append_left, get_or-append_right, get_or-take, get_or-drop}
@@ -118,20 +118,21 @@ module _ (points values : List ℕ) (width : ℕ) (even : length values ≡ leng
           at = λ r i hr hi. at r i (rw width_is at hr) hi ∙ ap (λ (n : ℕ). get_or values (i * n + r) 0) (sym width_is);
         }
 
-  -- The same of a matrix, a row's length and coefficients that are known by equations.
+  -- The same of a matrix, rows, a row's length and coefficients that are known by equations.
   pub ready :
-      (v : ℕ) (m : List ℕ) → v ≡ w → m ≡ first → Bytes points → Bytes values → Distinct points → (length m ≡ k * v) × (Bytes m × Independent k v m)
-  ready v m ev em bp bv d =
-      let P : ℕ → List ℕ → Type 0 = λ v m. (length m ≡ k * v) × (Bytes m × Independent k v m) in
-      subst₂ P (sym ev) (sym em) (matrix_length, (matrix_bytes bv, independent bp d))
+      (j v : ℕ) (m : List ℕ) → j ≡ k → v ≡ w → m ≡ first → Bytes points → Bytes values → Distinct points → Bytes m × Independent j v m
+  ready j v m ej ev em bp bv d =
+      let P : ℕ → ℕ → Type 0 = λ j v. Bytes m × Independent j v m in
+      subst₂ P (sym ej) (sym ev) (subst (λ m. Bytes m × Independent k w m) (sym em) (matrix_bytes bv, independent bp d))
 
   pub finished :
-      (v : ℕ) (start m out : List ℕ) → v ≡ w → start ≡ first → Reduced k v k start m → out ≡ further_columns k width m → Bytes points → Bytes values → 0 < k →
+      (j v : ℕ) (start m out : List ℕ) → j ≡ k → v ≡ w → start ≡ first → Reduced j v j start m → out ≡ further_columns j (v - j) m → Bytes points → Bytes values → 0 < k →
       Interpolates points values out
-  finished v start m out ev es red eo bp bv some =
-      let P : ℕ → List ℕ → Type 0 = λ v start. Reduced k v k start m in
-      let Q : List ℕ → Type 0 = λ out. Interpolates points values out in
-      subst Q (sym eo) (solution m (subst₂ P ev es red) bp bv some)
+  finished j v start m out ej ev es red eo bp bv some =
+      let left : v - j ≡ width = omega arith in
+      let P : ℕ → ℕ → Type 0 = λ j v. Reduced j v j first m in
+      let out-is : out ≡ further_columns k width m = eo ∙ ap₂ (λ j n. further_columns j n m) ej left in
+      subst (Interpolates points values) (sym out-is) (solution m (subst₂ P ej ev (subst (λ start. Reduced j v j start m) es red)) bp bv some)
 
 -- Two lists with the same values at different points are the same.
 pub only_one :

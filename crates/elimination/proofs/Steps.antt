@@ -287,3 +287,13 @@ clear_skip i w q first m clear e =
       after = λ j t l h. clear.after j t (omega arith) h;
       same = clear.same;
     }
+
+-- Before the first row nothing has changed.
+pub none_cleared : (w q : ℕ) (first m : List ℕ) → m ≡ first → Cleared 0 w q first m
+none_cleared w q first m e =
+    record {
+      long = ap length e;
+      there = λ j t l h ne. absurd (omega arith);
+      after = λ j t l h. ap (λ (xs : List ℕ). cell w xs j t) e;
+      same = λ t h. ap (λ (xs : List ℕ). cell w xs q t) e;
+    }

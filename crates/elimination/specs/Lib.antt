@@ -1,3 +1,4 @@
 pub mod Polynomial
 pub mod Matrix
+pub mod Shape
 pub mod Interpolation

@@ -1,24 +1,24 @@
 // The matrix that elimination starts from, and the coefficients read out of the one that it leaves.
-ghost use Rattle.std.specs.Prelude.{◌≡◌, ◌+◌, ◌*◌, ◌^◌, ◌<◌, ◌++◌, length, IfOk, OnOk};
+ghost use Rattle.std.specs.Prelude.{◌≡◌, ◌+◌, ◌-◌, ◌*◌, ◌<◌, ◌≤◌, ◌++◌, length, IfOk, OnOk};
 ghost use Rattle.elimination.specs.Matrix.{powers, matrix_of, column, further_columns};
 
-use crate::rows::entry;
+use crate::matrix::Matrix;
 use std::alloc::{AllocError, Global};
 
 // Pushes the first `k` powers of `x`.
-fn push_powers(m: &mut Vec<u8>, x: u8, k: usize) -> Result<(), AllocError>
-    ensures { OnOk result (m.new.items ≡ m.old.items ++ powers x k) }
+fn push_powers(cells: &mut Vec<u8>, x: u8, k: usize) -> Result<(), AllocError>
+    ensures { OnOk result (cells.new.items ≡ cells.old.items ++ powers x k) }
 {
     let mut next = 1;
     for _t in 0..k {
-        m.push(next)?;
+        cells.push(next)?;
         next = byte_field::product(x, next);
     }
     Ok(())
 }
 
 // A row for each point: the powers of the point, and then the values there. `size` is how many bytes that makes.
-pub fn matrix(
+fn rows_of(
     heap: Global,
     points: &[u8],
     values: &[u8],
@@ -26,41 +26,58 @@ pub fn matrix(
     size: usize,
 ) -> Result<Vec<u8>, AllocError>
     requires { length values.now ≡ length points.now * width }
-    ensures { IfOk result (λ m. m.items ≡ matrix_of points.now values.now width) }
+    ensures { IfOk result (λ v. v.items ≡ matrix_of points.now values.now width) }
 {
-    let mut m = Vec::with_capacity(heap, size)?;
-    for i in 0..points.len() {
-        push_powers(&mut m, points[i], points.len())?;
-        m.extend_from_slice(&values[i * width..i * width + width])?;
+    let mut cells = Vec::with_capacity(heap, size)?;
+    for (i, x) in points.iter().enumerate() {
+        push_powers(&mut cells, *x, points.len())?;
+        cells.extend_from_slice(&values[i * width..i * width + width])?;
     }
-    Ok(m)
+    Ok(cells)
 }
 
-// Pushes column `c` of a matrix with `k` rows of `w` entries.
-fn push_column(out: &mut Vec<u8>, m: &[u8], k: usize, w: usize, c: usize) -> Result<(), AllocError>
-    requires { (length m.now ≡ k * w) × (c < w) }
-    ensures { OnOk result (out.new.items ≡ out.old.items ++ column k w m.now c) }
-{
-    for i in 0..k {
-        out.push(entry(m, w, i, c))?;
+impl Matrix {
+    // The matrix of the powers of the points and of the values there, of which each point has `width`.
+    pub fn of(
+        heap: Global,
+        points: &[u8],
+        values: &[u8],
+        width: usize,
+    ) -> Result<Matrix, AllocError>
+        requires { length values.now ≡ length points.now * width }
+        ensures shape { IfOk result (λ m. (m.rows ≡ length points.now) × (m.width ≡ length points.now + width)) }
+        ensures cells { IfOk result (λ m. m.cells.items ≡ matrix_of points.now values.now width) }
+    {
+        let rows = points.len();
+        let wide = rows.checked_add(width).ok_or(AllocError)?;
+        let size = rows.checked_mul(wide).ok_or(AllocError)?;
+        let cells = rows_of(heap, points, values, width, size)?;
+        let copied = vec![in heap; 0; wide]?;
+        Ok(Matrix {
+            cells,
+            rows,
+            width: wide,
+            copied,
+        })
     }
-    Ok(())
-}
 
-// The columns past the first `k`, one after the other. `size` is how many bytes that makes.
-pub fn further_columns(
-    heap: Global,
-    m: &[u8],
-    k: usize,
-    width: usize,
-    size: usize,
-) -> Result<Vec<u8>, AllocError>
-    requires { (length m.now ≡ k * (k + width)) × (k + width < 2 ^ 64) }
-    ensures { IfOk result (λ v. v.items ≡ further_columns k width m.now) }
-{
-    let mut out = Vec::with_capacity(heap, size)?;
-    for r in 0..width {
-        push_column(&mut out, m, k, k + width, k + r)?;
+    // Pushes column `c`.
+    fn push_column(&self, out: &mut Vec<u8>, c: usize) -> Result<(), AllocError>
+        requires { c < self.now.width }
+        ensures { OnOk result (out.new.items ≡ out.old.items ++ column self.now.rows self.now.width self.now.cells.items c) }
+    {
+        out.extend((0..self.rows).map(|i| self.entry(i, c)))
     }
-    Ok(out)
+
+    // The columns past the first ones, of which there is one for each row, one after the other. `size` is how many bytes that makes.
+    pub fn further_columns(&self, heap: Global, size: usize) -> Result<Vec<u8>, AllocError>
+        requires { self.now.rows ≤ self.now.width }
+        ensures { IfOk result (λ v. v.items ≡ further_columns self.now.rows (self.now.width - self.now.rows) self.now.cells.items) }
+    {
+        let mut out = Vec::with_capacity(heap, size)?;
+        for c in self.rows..self.width {
+            self.push_column(&mut out, c)?;
+        }
+        Ok(out)
+    }
 }

@@ -2,19 +2,20 @@
 #![tactic(auto)]
 
 ghost use Rattle.std.specs.Prelude.{◌≡◌, ◌*◌, ◌<◌, length, IfOk, MatchResult};
-ghost use Rattle.elimination.specs.Interpolation.{number, is_in, repeated, reason, Interpolates, Solved};
-ghost use Rattle.elimination.specs.Polynomial.{Bytes, Distinct, Determined};
+ghost use Rattle.elimination.specs.Interpolation.{number, repeated, reason, Interpolates, Solved};
+ghost use Rattle.elimination.specs.Polynomial.{Distinct, Determined};
+ghost use Rattle.elimination.specs.declared.Unsolved.TheVariants.{NoMemory};
 
 mod building;
+mod matrix;
 mod reduction;
 mod rows;
 
-use building::{further_columns, matrix};
-use reduction::reduce;
+use matrix::Matrix;
 use std::alloc::{AllocError, Global};
 
 // Why no polynomials came out.
-#[derive(Clone, Copy)]
+#[derive(Clone, Copy, PartialEq, Eq, Debug)]
 pub enum Unsolved {
     NoPoints,
     // The values are not the same number at each point.
@@ -23,24 +24,23 @@ pub enum Unsolved {
     NoMemory,
 }
 
-fn among(x: u8, s: &[u8]) -> bool
-    ensures { result ≡ is_in x s.now }
-{
-    for y in s {
-        if *y == x {
-            return true;
-        }
+impl From<AllocError> for Unsolved {
+    ghost from_gives = { λ _ r. r ≡ NoMemory };
+
+    fn from(_e: AllocError) -> Unsolved {
+        Unsolved::NoMemory
     }
-    false
 }
 
 fn has_repeat(points: &[u8]) -> bool
     ensures { result ≡ repeated points.now }
 {
-    for i in 0..points.len() {
-        if among(points[i], &points[i + 1..]) {
+    let mut left = points;
+    while let Some((x, behind)) = left.split_first() {
+        if behind.contains(x) {
             return true;
         }
+        left = behind;
     }
     false
 }
@@ -50,17 +50,9 @@ fn solve(heap: Global, points: &[u8], values: &[u8], width: usize) -> Result<Vec
     requires { (0 < length points.now) × ((length values.now ≡ length points.now * width) × (Distinct points.now)) }
     ensures { IfOk result (λ v. Interpolates points.now values.now v.items) }
 {
-    let k = points.len();
-    let Some(w) = k.checked_add(width) else {
-        return Err(AllocError);
-    };
-    let Some(size) = k.checked_mul(w) else {
-        return Err(AllocError);
-    };
-    let mut m = matrix(heap, points, values, width, size)?;
-    let mut row = vec![in heap; 0; w]?;
-    reduce(&mut m, &mut row, k, w);
-    further_columns(heap, &m, k, width, values.len())
+    let mut m = Matrix::of(heap, points, values, width)?;
+    m.reduce();
+    m.further_columns(heap, values.len())
 }
 
 // Works polynomials out of their values. `values` has, point after point, the value of each polynomial there; what comes out has, polynomial after polynomial,
@@ -79,10 +71,7 @@ pub fn interpolate(heap: Global, points: &[u8], values: &[u8]) -> Result<Vec<u8>
     if has_repeat(points) {
         return Err(Unsolved::SamePoint);
     }
-    match solve(heap, points, values, values.len() / k) {
-        Ok(v) => Ok(v),
-        Err(_) => Err(Unsolved::NoMemory),
-    }
+    Ok(solve(heap, points, values, values.len() / k)?)
 }
 
 // Polynomials with so many coefficients are determined by their values at so many different points.

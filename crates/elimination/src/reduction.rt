@@ -1,62 +1,63 @@
 // Elimination: the first columns of a matrix are made those of the unit matrix, by adding multiples of rows to rows and nothing else.
-ghost use Rattle.std.specs.Prelude.{◌≡◌, ℕ, ◌+◌, ◌*◌, ◌<◌, ◌≤◌, length};
+ghost use Rattle.std.specs.Prelude.{◌≡◌, ◌<◌, ◌≤◌};
 ghost use Rattle.elimination.specs.Matrix.{cell, Found, Led, Cleared, Independent, Reduced};
 ghost use Rattle.elimination.specs.Polynomial.{Bytes};
+ghost use Rattle.elimination.specs.Shape.{SameShape};
 
-use crate::rows::{add_row, copy_row, entry};
+use crate::matrix::Matrix;
 
-// The first row from row `q` on whose entry in column `q` isn't 0.
-fn pivot(m: &[u8], k: usize, w: usize, q: usize) -> Option<usize>
-    requires { (length m.now ≡ k * w) × (q < w) }
-    ensures { Found k w q m.now result }
-{
-    for i in q..k {
-        if entry(m, w, i, q) != 0 {
-            return Some(i);
-        }
+impl Matrix {
+    // The first row from row `q` on whose entry in column `q` isn't 0.
+    fn pivot(&self, q: usize) -> Option<usize>
+        requires { q < self.now.width }
+        ensures { Found self.now.rows self.now.width q self.now.cells.items result }
+    {
+        (q..self.rows).find(|i| self.entry(*i, q) != 0)
     }
-    None
-}
 
-// Adds so much of row `p` to row `q` that its entry in column `q` becomes 1. `row` is for the copy of a row.
-fn lead(m: &mut [u8], row: &mut [u8], w: usize, q: usize, p: usize)
-    requires places { (q * w + w ≤ length m.old) × ((p * w + w ≤ length m.old) × ((q < w) × (length row.old ≡ w))) }
-    requires pivot { 1 ≤ cell w m.old p q }
-    ensures { Led w q p m.old m.new }
-{
-    let wanting = byte_field::sum(1, entry(m, w, q, q));
-    let Some(factor) = byte_field::quotient(wanting, entry(m, w, p, q)) else {
-        unreachable()
-    };
-    copy_row(row, m, w, p);
-    add_row(m, w, q, factor, row);
-}
-
-// Adds so much of row `q` to each other row that its entry in column `q` becomes 0, where that of row `q` is 1.
-fn clear_column(m: &mut [u8], row: &mut [u8], k: usize, w: usize, q: usize)
-    requires { (length m.old ≡ k * w) × ((q < k) × ((q < w) × (length row.old ≡ w))) }
-    ensures { Cleared k w q m.old m.new }
-{
-    copy_row(row, m, w, q);
-    for i in 0..k {
-        if i != q {
-            let factor = entry(m, w, i, q);
-            add_row(m, w, i, factor, row);
-        }
-    }
-}
-
-// Makes the first `k` columns of a matrix with `k` rows those of the unit matrix. Since they are independent a pivot is always found.
-pub fn reduce(m: &mut [u8], row: &mut [u8], k: usize, w: usize)
-    requires sizes { (length m.old ≡ k * w) × ((k ≤ w) × (length row.old ≡ w)) }
-    requires given { (Bytes m.old) × (Independent k w m.old) }
-    ensures { Reduced k w k m.old m.new }
-{
-    for q in 0..k {
-        let Some(p) = pivot(m, k, w, q) else {
+    // Adds so much of row `p` to row `q` that its entry in column `q` becomes 1.
+    fn lead(&mut self, q: usize, p: usize)
+        requires places { (q < self.old.rows) × (q < self.old.width) × (p < self.old.rows) }
+        requires pivot { 1 ≤ cell self.old.width self.old.cells.items p q }
+        ensures shape { SameShape self.old self.new }
+        ensures led { Led self.old.width q p self.old.cells.items self.new.cells.items }
+    {
+        let wanting = byte_field::sum(1, self.entry(q, q));
+        let Some(factor) = byte_field::quotient(wanting, self.entry(p, q)) else {
             unreachable()
         };
-        lead(m, row, w, q, p);
-        clear_column(m, row, k, w, q);
+        self.copy_row(p);
+        self.add_copied(q, factor);
+    }
+
+    // Adds so much of row `q` to each other row that its entry in column `q` becomes 0, where that of row `q` is 1.
+    fn clear_column(&mut self, q: usize)
+        requires { (q < self.old.rows) × (q < self.old.width) }
+        ensures shape { SameShape self.old self.new }
+        ensures cleared { Cleared self.old.rows self.old.width q self.old.cells.items self.new.cells.items }
+    {
+        self.copy_row(q);
+        for i in 0..self.rows {
+            if i != q {
+                let factor = self.entry(i, q);
+                self.add_copied(i, factor);
+            }
+        }
+    }
+
+    // Makes the first columns, one for each row, those of the unit matrix. Since they are independent a pivot is always found.
+    pub fn reduce(&mut self)
+        requires sizes { self.old.rows ≤ self.old.width }
+        requires given { Bytes self.old.cells.items × Independent self.old.rows self.old.width self.old.cells.items }
+        ensures shape { SameShape self.old self.new }
+        ensures reduced { Reduced self.old.rows self.old.width self.old.rows self.old.cells.items self.new.cells.items }
+    {
+        for q in 0..self.rows {
+            let Some(p) = self.pivot(q) else {
+                unreachable()
+            };
+            self.lead(q, p);
+            self.clear_column(q);
+        }
     }
 }

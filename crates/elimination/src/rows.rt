@@ -1,27 +1,43 @@
-// A matrix of bytes in one slice, row after row: reads, and sums of whole rows.
-ghost use Rattle.std.specs.Prelude.{◌≡◌, ℕ, ◌+◌, ◌*◌, ◌<◌, ◌≤◌, length, slice_index};
+// Reads of a matrix, and sums of whole rows.
+ghost use Rattle.std.specs.Prelude.{◌≡◌, ℕ, ◌<◌, slice_index};
 ghost use Rattle.elimination.specs.Matrix.{cell, RowAdded};
+ghost use Rattle.elimination.specs.Shape.{SameShape};
 
-// The entry in row `i` and column `t` of a matrix whose rows have `w` entries.
-pub fn entry(m: &[u8], w: usize, i: usize, t: usize) -> u8
-    requires { i * w + t < length m.now }
-    ensures { result ≡ cell w m.now i t }
-{
-    m[i * w + t]
-}
+use crate::matrix::Matrix;
 
-// Copies row `i` of `m` into `row`, all of it.
-pub fn copy_row(row: &mut [u8], m: &[u8], w: usize, i: usize)
-    requires { (i * w + w ≤ length m.now) × (length row.old ≡ w) }
-    ensures { (t : ℕ) → t < w → slice_index row.new t ≡ cell w m.now i t }
-{
-    row.copy_from_slice(&m[i * w..i * w + w]);
-}
+impl Matrix {
+    // The entry in row `i` and column `t`.
+    pub fn entry(&self, i: usize, t: usize) -> u8
+        requires { (i < self.now.rows) × (t < self.now.width) }
+        ensures { result ≡ cell self.now.width self.now.cells.items i t }
+    {
+        self.cells[i * self.width + t]
+    }
 
-// Adds `factor` times `source` to row `i`; the other rows stay as they are.
-pub fn add_row(m: &mut [u8], w: usize, i: usize, factor: u8, source: &[u8])
-    requires { (i * w + w ≤ length m.old) × (length source.now ≡ w) }
-    ensures { RowAdded w i factor source.now m.old m.new }
-{
-    byte_field::add_scaled(&mut m[i * w..i * w + w], factor, source);
+    // Copies row `i`, all of it.
+    pub fn copy_row(&mut self, i: usize)
+        requires { i < self.old.rows }
+        ensures shape { SameShape self.old self.new }
+        ensures cells { self.new.cells.items ≡ self.old.cells.items }
+        ensures copied { (t : ℕ) → t < self.old.width → slice_index self.new.copied.items t ≡ cell self.old.width self.old.cells.items i t }
+    {
+        let start = i * self.width;
+        self.copied
+            .copy_from_slice(&self.cells[start..start + self.width]);
+    }
+
+    // Adds `factor` times the copied row to row `i`; the other rows stay as they are.
+    pub fn add_copied(&mut self, i: usize, factor: u8)
+        requires { i < self.old.rows }
+        ensures shape { SameShape self.old self.new }
+        ensures copied { self.new.copied.items ≡ self.old.copied.items }
+        ensures added { RowAdded self.old.width i factor self.old.copied.items self.old.cells.items self.new.cells.items }
+    {
+        let start = i * self.width;
+        byte_field::add_scaled(
+            &mut self.cells[start..start + self.width],
+            factor,
+            &self.copied,
+        );
+    }
 }

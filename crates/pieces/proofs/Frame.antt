@@ -1,7 +1,8 @@
 -- An object's frame: how long it is, and that the object and its length can be read off it again.
-use Rattle.std.proofs.Common.{◌≡◌, ℕ, zero, suc, ◌+◌, ◌-◌, ◌*◌, ◌/◌, ◌%◌, ◌<◌, ◌≤◌, List, [], ◌∷◌, ◌++◌, length, take, drop, replicate, sym, refl, ap, ◌∙◌, subst, ap₂, mod-lt, div-add-mod', mul-div_cancel, arith, lit<}
+use Rattle.std.proofs.Common.{◌≡◌, ℕ, zero, suc, ◌+◌, ◌-◌, ◌*◌, ◌/◌, ◌%◌, ◌<◌, ◌≤◌, List, [], ◌∷◌, ◌++◌, length, take, drop, replicate, sym, refl, ap, ◌∙◌, subst, ap₂, mod-lt, div-add-mod', mul-div_cancel, inl, inr, mul-le-mul_right, suc-mul, arith, lit<}
 use native.Mathlib.Nat.{div-div-eq-div-mul}
-use Rattle.std.proofs.lemmas.List.{length-append, length-replicate, append_assoc, replicate_more, take_at, drop_at, drop-drop, take-append-drop, length-take-le, length-drop}
+use Rattle.std.proofs.lemmas.List.{length-append, length-replicate, take_all, take_at, drop_at, drop-drop, take-append-drop, length-take-le, length-drop}
+use Rattle.std.proofs.lemmas.Bool.{cases_order}
 use Rattle.std.specs.List.{AllByRecursion}
 use Rattle.std.proofs.ByRecursion.{All-append}
 use Rattle.byte_field.specs.Byte.{IsByte}
@@ -17,32 +18,37 @@ rows_hold need n h =
     let l = mod-lt (4 + n + (need - 1)) h in
     (omega arith, omega arith)
 
+-- So they are the least multiple that holds them.
+pub rows_least : (need n size : ℕ) → 0 < need → size % need ≡ 0 → 4 + n ≤ size → size < 4 + n + need → size ≡ rows_for need n * need
+rows_least need n size h whole low high =
+    let q = size / need in
+    let k = rows_for need n in
+    let e : q * need + size % need ≡ size = div-add-mod' size need in
+    let fits = rows_hold need n h in
+    elim (cases_order q k) [
+      | inl same ↦ omega (arith, e, ap (λ j. j * need) same)
+      | inr (inl less) ↦ absurd (omega (arith, mul-le-mul_right need less, suc-mul q need, fits.1))
+      | inr (inr more) ↦ absurd (omega (arith, mul-le-mul_right need more, suc-mul k need, fits.0))
+    ]
+
 pub length_framed : (need : ℕ) (bytes : List ℕ) → 0 < need → length (framed need bytes) ≡ rows_for need (length bytes) * need
 unfolding framed
 length_framed need bytes h =
     let e = rows_hold need (length bytes) h in
     simp (length-append, length-replicate) (omega (arith, e.0))
 
--- One zero more after the object, which ends at `used`.
-pub filled_more : (head bytes : List ℕ) (at used : ℕ) → used ≤ at → (head ++ (bytes ++ replicate (at - used) 0)) ++ 0 ∷ [] ≡ head ++ (bytes ++ replicate (at + 1 - used) 0)
-filled_more head bytes at used h =
-    append_assoc head (bytes ++ replicate (at - used) 0) (0 ∷ [])
-    ∙ ap (λ t. head ++ t) (append_assoc bytes (replicate (at - used) 0) (0 ∷ [])
-    ∙ ap (λ t. bytes ++ t) (replicate_more (at - used) 0 ∙ ap (λ k. replicate k 0) (omega arith)))
-
--- Zeros up to the end of the rows make the frame whole.
-pub filled : (need : ℕ) (bytes : List ℕ) (at size : ℕ) → 0 < need → size ≡ rows_for need (length bytes) * need → size ≤ at → (4 + length bytes ≤ size → at ≤ size)
-    → length_bytes (length bytes) ++ (bytes ++ replicate (at - (4 + length bytes)) 0) ≡ framed need bytes
+-- The length and the object, filled up with zeros to whole rows, are the frame.
+pub resized : (need : ℕ) (bytes flat : List ℕ) (size used : ℕ) → flat ≡ length_bytes (length bytes) ++ bytes → used ≡ length flat → size ≡ rows_for need (length bytes) * need
+    → 4 + length bytes ≤ size → take size flat ++ replicate (size - used) 0 ≡ framed need bytes
 unfolding framed
-filled need bytes at size h is low high =
-    let e = (rows_hold need (length bytes) h).0 in
-    let inside : 4 + length bytes ≤ size = omega arith in
-    ap (λ k. length_bytes (length bytes) ++ (bytes ++ replicate (k - (4 + length bytes)) 0)) (omega (arith, high inside))
+resized need bytes flat size used is count rows fits =
+    let long : length flat ≡ 4 + length bytes = omega (arith, ap length is) in
+    ap₂ (λ xs k. xs ++ replicate k 0) (take_all size flat (omega arith) ∙ is) (omega arith)
 
--- The number of rows, as the code works it out from the length of the frame.
-pub rows_of : (need : ℕ) (bytes flat : List ℕ) (n rows : ℕ) → 0 < need → flat ≡ framed need bytes → n ≡ length flat → rows ≡ n / need → rows ≡ rows_for need (length bytes)
-rows_of need bytes flat n rows h is long e =
-    e ∙ ap (λ k. k / need) (long ∙ ap length is ∙ length_framed need bytes h) ∙ mul-div_cancel (rows_for need (length bytes)) h
+-- As many rows as make up the frame are those of the object.
+pub rows_of : (need : ℕ) (bytes : List ℕ) (rows : ℕ) → 0 < need → rows * need ≡ length (framed need bytes) → rows ≡ rows_for need (length bytes)
+rows_of need bytes rows h e =
+    sym (mul-div_cancel rows h) ∙ ap (λ k. k / need) (e ∙ length_framed need bytes h) ∙ mul-div_cancel (rows_for need (length bytes)) h
 
 tens : 0 < 256
 tens = lit< tt

@@ -1,32 +1,24 @@
--- Loops that test or gather a part of each element of a list.
-use Rattle.std.proofs.Common.{◌≡◌, ℕ, ◌+◌, ◌<◌, ◌≤◌, List, [], ◌∷◌, ◌++◌, map, length, get_or, take, sym, ap, ◌∙◌, subst}
-use Rattle.std.specs.List.{flat_map, AllByRecursion}
-use Rattle.std.proofs.ByRecursion.{All-push, All-get_or}
-use Rattle.std.proofs.lemmas.List.{map_more, take_all, take_more, get_or-map, length-map, flat_map_more}
+-- Chains and loops that test or gather a part of each element of a list.
+use Rattle.std.proofs.Common.{◌≡◌, ℕ, ◌+◌, ◌<◌, List, [], ◌∷◌, ◌++◌, map, length, get_or, take, sym, ap, ◌∙◌, subst, arith}
+use Rattle.std.specs.List.{flat_map, AllByRecursion, AllWithin, HoldsAt}
+use Rattle.std.proofs.ByRecursion.{All-map, All-get_or, all_from_every}
+use Rattle.std.proofs.lemmas.List.{take_more, get_or-map, length-map, flat_map_more}
 
-module _ {X Y : Type 0} (f : X → Y) (P : Y → Type 0) (xs : List X) (i : ℕ) where
-  -- One more element has passed.
-  pub passed_more : (x : X) → i < length xs → x ≡ get_or xs i x → AllByRecursion P (map f (take i xs)) → P (f x) → AllByRecursion P (map f (take (i + 1) xs))
-  passed_more x h is all here =
-      subst (AllByRecursion P) (ap (λ y. map f (take i xs) ++ f y ∷ []) is ∙ sym (map_more f xs i x h)) (All-push P (map f (take i xs)) (f x) all here)
+-- All parts are as they should be where the part of each element is.
+pub all_parts : {X Y : Type 0} (f : X → Y) (P : Y → Type 0) (xs : List X) → AllWithin (λ x. P (f x)) xs 0 (length xs) → AllByRecursion P (map f xs)
+all_parts f P xs h = All-map P f xs (all_from_every (λ x. P (f x)) xs h)
 
-  -- All have.
-  pub passed_all : length xs ≤ i → AllByRecursion P (map f (take i xs)) → AllByRecursion P (map f xs)
-  passed_all h all = subst (λ ys. AllByRecursion P (map f ys)) (take_all i xs h) all
+-- A part is as all are.
+pub part_is : {X Y : Type 0} (f : X → Y) (P : Y → Type 0) (xs : List X) (k : ℕ) (d : X) → k < length xs → AllByRecursion P (map f xs) → P (f (get_or xs k d))
+part_is f P xs k d h all =
+    subst P (get_or-map f xs k d (f d) h) (All-get_or P (map f xs) k (f d) (subst (λ n. k < n) (sym (length-map xs f)) h) all)
 
-  -- Each has.
-  pub passed : (x : X) → i < length xs → x ≡ get_or xs i x → AllByRecursion P (map f xs) → P (f x)
-  passed x h is all =
-      subst P (get_or-map f xs i x (f x) h ∙ ap f (sym is)) (All-get_or P (map f xs) i (f x) (subst (λ n. i < n) (sym (length-map xs f)) h) all)
-
-  -- One hasn't.
-  pub not_passed : (x : X) → i < length xs → x ≡ get_or xs i x → (P (f x) → ⊥) → AllByRecursion P (map f xs) → ⊥
-  not_passed x h is fails all = fails (passed x h is all)
+-- Where one isn't, not all are.
+pub not_all_parts : {X Y : Type 0} (f : X → Y) (P : Y → Type 0) (xs : List X) (k : ℕ) → k < length xs → HoldsAt (λ x. P (f x) → ⊥) xs k → AllByRecursion P (map f xs) → ⊥
+not_all_parts f P [] k h fails all = absurd (omega arith)
+not_all_parts f P (x ∷ xs) k h fails all = fails x (part_is f P (x ∷ xs) k x h all)
 
 -- One more element is gathered.
 pub gathered_more : {X Y : Type 0} (f : X → List Y) (xs : List X) (i : ℕ) (x : X) → i < length xs → x ≡ get_or xs i x → flat_map f (take i xs) ++ f x ≡ flat_map f (take (i + 1) xs)
 gathered_more f xs i x h is =
     flat_map_more f [] (take i xs) x ∙ ap (λ y. flat_map f (take i xs ++ y ∷ [])) is ∙ ap (flat_map f) (sym (take_more xs i x h))
-
-pub mapped_more : {X Y : Type 0} (f : X → Y) (xs : List X) (i : ℕ) (x : X) → i < length xs → x ≡ get_or xs i x → map f (take i xs) ++ f x ∷ [] ≡ map f (take (i + 1) xs)
-mapped_more f xs i x h is = ap (λ y. map f (take i xs) ++ f y ∷ []) is ∙ sym (map_more f xs i x h)

@@ -4,7 +4,9 @@
 mod errors;
 mod examining;
 mod making;
+mod need;
 mod reading;
+mod rows;
 mod solving;
 mod working;
 

@@ -1,31 +1,33 @@
 // Reading an object off its rows.
-ghost use Rattle.std.specs.Prelude.{◌≡◌, ◌<◌, ◌≤◌, MatchBool, MatchResult, slice_index};
-ghost use Rattle.pieces.specs.Given.{IsZero, length_in};
+ghost use Rattle.std.specs.Prelude.{◌≡◌, ◌<◌, MatchResult, slice_index};
+ghost use Rattle.pieces.specs.Given.{length_in};
 ghost use Rattle.pieces.specs.Outcomes.{Read};
 ghost use Rattle.pieces.specs.Refusals.{NotRead};
-ghost use Rattle.std.specs.List.{AllByRecursion};
 
 use crate::errors::PieceError;
 use crate::making::{MAX, framed_size};
+use crate::rows::Rows;
 use std::alloc::Global;
 
-// The object whose rows these are.
-pub fn read(heap: Global, need: usize, flat: &[u8]) -> Result<Vec<u8>, PieceError>
-    requires { (0 < need) × (need ≤ 31) }
-    ensures { MatchResult result (λ v. Read need flat.now v.items) (NotRead need flat.now) }
-{
-    let length = length_in(flat);
-    if length > MAX {
-        return Err(PieceError::LengthTooLarge);
+impl Rows {
+    // The object whose rows these are.
+    pub fn read(&self, heap: Global) -> Result<Vec<u8>, PieceError>
+        ensures { MatchResult result (λ v. Read self.now.need.count self.now.flat.items v.items) (NotRead self.now.need.count self.now.flat.items) }
+    {
+        let flat = self.flat.as_slice();
+        let length = length_in(flat);
+        if length > MAX {
+            return Err(PieceError::LengthTooLarge);
+        }
+        if flat.len() != framed_size(self.need, length) {
+            return Err(PieceError::WrongRowCount);
+        }
+        let used = 4 + length;
+        if flat[used..].iter().any(|byte| *byte != 0) {
+            return Err(PieceError::NotZeroFilled);
+        }
+        Ok(Vec::from_slice(heap, &flat[4..used])?)
     }
-    if flat.len() != framed_size(need, length) {
-        return Err(PieceError::WrongRowCount);
-    }
-    let used = 4 + length;
-    if !all_zeros(&flat[used..]) {
-        return Err(PieceError::NotZeroFilled);
-    }
-    Ok(Vec::from_slice(heap, &flat[4..used])?)
 }
 
 // The object's length as the first 4 bytes say it.
@@ -39,20 +41,5 @@ fn length_in(flat: &[u8]) -> usize
 fn byte_at(flat: &[u8], place: usize) -> usize
     ensures { (result ≡ slice_index flat.now place) × (result < 256) }
 {
-    if place < flat.len() {
-        flat[place] as usize
-    } else {
-        0
-    }
-}
-
-fn all_zeros(bytes: &[u8]) -> bool
-    ensures { MatchBool result (AllByRecursion IsZero bytes.now) (AllByRecursion IsZero bytes.now → ⊥) }
-{
-    for b in bytes {
-        if *b != 0 {
-            return false;
-        }
-    }
-    true
+    usize::from(flat.get(place).copied().unwrap_or(0))
 }

@@ -4,7 +4,7 @@ ghost use Rattle.pieces.specs.Outcomes.{MadeWork, OnlyOne, Outcome, Remade, Rows
 use crate::errors::PieceError;
 use crate::examining::examine;
 use crate::making::make;
-use crate::reading::read;
+use crate::need::Need;
 use crate::solving::solve;
 use std::alloc::Global;
 
@@ -19,10 +19,10 @@ pub struct Piece {
 pub fn work_out(heap: Global, need: u8, pieces: &[Piece]) -> Result<Vec<u8>, PieceError>
     ensures { Outcome need pieces.now result }
 {
+    let need = Need::new(need)?;
     examine(need, pieces)?;
-    let need = need as usize;
-    let flat = solve(heap, need, pieces)?;
-    read(heap, need, flat.as_slice())
+    let rows = solve(heap, need, pieces)?;
+    rows.read(heap)
 }
 
 // The piece that a drive has of the object that has these pieces.
@@ -30,7 +30,7 @@ pub fn remake(heap: Global, need: u8, drive: u8, pieces: &[Piece]) -> Result<Vec
     ensures { Remade need drive pieces.now result }
 {
     let object = work_out(heap, need, pieces)?;
-    make(heap, need, drive, object.as_slice())
+    make(heap, need, drive, &object)
 }
 
 // The theorem that pieces that were made give their object back stands on this function's contract.

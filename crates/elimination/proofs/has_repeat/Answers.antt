@@ -3,11 +3,13 @@ use Rattle.std.proofs.Common.{sym, ◌∙◌}
 use Rattle.elimination.proofs.Points.{repeated_here, repeated_more, repeated_none}
 use Rattle.elimination.proofs.has_repeat.Goals as goal
 
-pub returns-then-among : goal.returns-then-among
-returns-then-among c = sym (repeated_here c.args.points.now c.loop-i.i c.loop-i-test.true (sym c.if-among.ensures)) ∙ c.loop-i.invariant
+pub returns-then-contains : goal.returns-then-contains
+returns-then-contains c =
+    sym (repeated_here c.loop-x.left.now c.in-Some.x.now c.in-Some.behind.now c.in-Some.ensures.cases.0 c.if-contains.ensures.value) ∙ c.loop-x.invariant
 
-pub loop-i-preserved : goal.loop-i-preserved
-loop-i-preserved c = repeated_more c.args.points.now c.loop-i.i c.loop-i-test.true (sym c.if-among.ensures) ∙ c.loop-i.invariant
+pub loop-x-preserved : goal.loop-x-preserved
+loop-x-preserved c =
+    repeated_more c.loop-x.left.now c.in-Some.x.now c.in-Some.behind.now c.in-Some.ensures.cases.0 c.if-contains.ensures.value ∙ c.loop-x.invariant
 
 pub returns : goal.returns
-returns c = sym (repeated_none c.args.points.now c.loop-i.i c.loop-i-test.false) ∙ c.loop-i.invariant
+returns c = sym (repeated_none c.loop-x.left.now c.in_default.ensures.cases) ∙ c.loop-x.invariant

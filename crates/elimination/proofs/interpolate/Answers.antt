@@ -9,16 +9,16 @@ pub solve-requires : goal.solve-requires
 solve-requires c =
     (omega arith, (omega (arith, div-add-mod (length c.args.values.now) (length c.args.points.now)), distinct_from c.args.points.now (sym c.if-has_repeat.ensures)))
 
-pub returns-in-Ok : goal.returns-in-Ok
-returns-in-Ok c =
+pub returns : goal.returns
+returns c =
     let points : List ℕ = c.args.points.now in
     let values : List ℕ = c.args.values.now in
-    let v : List ℕ = vec_items c.in-Ok.v in
+    let v : List ℕ = vec_items c.in_ok-solve.field-0 in
     let different = sym c.if-has_repeat.ensures in
     let even : length values ≡ length points * (length values / length points) = omega (arith, div-add-mod (length values) (length points)) in
     record {
       allowed = reason_none points values c.if-k-eq0.false c.if-values-k-ne0.false different;
-      interpolates = c.in-Ok.ensures;
+      interpolates = c.in_ok-solve.ensures;
       only = λ u fits.
-          only_one points values v u (omega arith) even (typed_bytes points c.type_inv.points) (distinct_from points different) c.in-Ok.ensures fits;
+          only_one points values v u (omega arith) even (typed_bytes points c.type_inv.points) (distinct_from points different) c.in_ok-solve.ensures fits;
     }

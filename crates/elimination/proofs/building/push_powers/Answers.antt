@@ -8,7 +8,7 @@ use Rattle.elimination.proofs.building.push_powers.Goals as goal
 
 pub loop-t-init : goal.loop-t-init
 unfolding power
-loop-t-init c = (sym (append-nil (vec_items c.args.m.now)), refl, omega arith)
+loop-t-init c = (sym (append-nil (vec_items c.args.cells.now)), refl, omega arith)
 
 pub loop-t-preserved : goal.loop-t-preserved
 unfolding power
@@ -16,7 +16,7 @@ loop-t-preserved c =
     let x : ℕ = c.args.x in
     let t : ℕ = c.loop-t._t in (
       c.in_ok-push.ensures.items ∙ ap₂ (λ (l : List ℕ) (y : ℕ). l ++ y ∷ []) c.loop-t.invariant.0 c.loop-t.invariant.1
-          ∙ counted_more (vec_items c.args.m.now) (power x) t,
+          ∙ counted_more (vec_items c.args.cells.now) (power x) t,
       c.product-next.ensures ∙ ap (mul x) c.loop-t.invariant.1 ∙ sym (ap (power x) (add-one t)),
       c.product-next.type_inv,
     )

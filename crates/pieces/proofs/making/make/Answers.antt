@@ -1,31 +1,28 @@
-use Rattle.std.proofs.Common.{◌+◌, ◌*◌, ◌<◌, length, replicate, vec_items, sym, ap, ◌∙◌, arith}
+use Rattle.std.proofs.Common.{◌≡◌, ℕ, ◌+◌, ◌*◌, List, length, replicate, sym, ap, ◌∙◌, ap₂, arith}
 use Rattle.std.proofs.lemmas.List.{take_at}
-use Rattle.pieces.specs.Rows.{rows_for, values, piece_of}
-use Rattle.pieces.proofs.Frame.{rows_of, length_framed}
+use Rattle.pieces.specs.Rows.{framed, values, piece_of}
+use Rattle.pieces.proofs.Frame.{rows_of}
 use Rattle.pieces.proofs.making.make.Goals as goal
 
 pub evaluate-requires : goal.evaluate-requires
 evaluate-requires c =
-    let h : 0 < c.args.need = omega arith in
-    let rows =
-    rows_of c.args.need c.args.object.now (vec_items c.in_ok-flat.flat) c.len.result (length c.as_mut_slice.result.now) h
-    c.in_ok-flat.ensures (c.len.ensures ∙ c.in_ok-flat.flat.ok.0) (c.as_mut_slice.ensures.len ∙ c.in_ok-piece.ensures.len) in (
-      h,
-      (
-        ap length (c.as_slice.ensures.value ∙ c.in_ok-flat.ensures) ∙ length_framed c.args.need c.args.object.now h
-            ∙ ap (λ k. k * c.args.need) (sym rows),
-        c.as_mut_slice.ensures.value ∙ c.in_ok-piece.ensures.items_if_clones_equal (λ y e. e)
-            ∙ ap (λ k. replicate k 0) (sym (c.as_mut_slice.ensures.len ∙ c.in_ok-piece.ensures.len)),
-      ),
+    let long : length c.deref_mut.result.now ≡ c.count.result = c.deref_mut.ensures.len ∙ c.in_ok-piece.ensures.len in (
+      sym c.in_ok-rows.rows.flat.ok.0 ∙ c.count.ensures ∙ ap (λ k. k * c.in_ok-rows.rows.need.count) (sym long),
+      c.deref_mut.ensures.value ∙ c.in_ok-piece.ensures.items_if_clones_equal (λ y e. e) ∙ ap (λ k. replicate k 0) (sym long),
     )
 
 pub returns : goal.returns
 unfolding piece_of
 returns c =
-    let h : 0 < c.args.need = omega arith in
-    let rows =
-    rows_of c.args.need c.args.object.now (vec_items c.in_ok-flat.flat) c.len.result (length c.as_mut_slice.result.now) h
-    c.in_ok-flat.ensures (c.len.ensures ∙ c.in_ok-flat.flat.ok.0) (c.as_mut_slice.ensures.len ∙ c.in_ok-piece.ensures.len) in
+    let need : ℕ = c.args.need in
+    let object : List ℕ = c.args.object.now in
+    let flat : List ℕ = c.in_ok-rows.rows.flat.items in
+    let count : ℕ = length c.deref_mut.result.now in
+    let count-is : count ≡ c.count.result = c.deref_mut.ensures.len ∙ c.in_ok-piece.ensures.len in
+    let need-is : c.in_ok-rows.rows.need.count ≡ need = c.in_ok-rows.ensures.0 ∙ c.in_ok-need.ensures in
+    let flat-is : flat ≡ framed need object = c.in_ok-rows.ensures.1 ∙ ap (λ k. framed k object) c.in_ok-need.ensures in
+    let whole : count * need ≡ length (framed need object) =
+    ap₂ (λ n k. n * k) count-is (sym need-is) ∙ sym c.count.ensures ∙ c.in_ok-rows.rows.flat.ok.0 ∙ ap length flat-is in
     record {
       need_is = (omega arith, omega arith);
       drive_is = omega arith;
@@ -33,7 +30,6 @@ returns c =
       piece_is =
           take_at c.evaluate.new.piece _ c.in_ok-piece.piece.len (omega arith)
           ∙ c.evaluate.ensures
-          ∙ ap (λ k. values c.args.need k (c.args.drive + 1) c.as_slice.result.now) rows
-          ∙ ap (λ f. values c.args.need (rows_for c.args.need (length c.args.object.now)) (c.args.drive + 1) f)
-          (c.as_slice.ensures.value ∙ c.in_ok-flat.ensures);
+          ∙ ap (λ k. values k count (c.args.drive + 1) flat) need-is
+          ∙ ap₂ (λ k f. values need k (c.args.drive + 1) f) (rows_of need object count (omega arith) whole) flat-is;
     }

@@ -7,8 +7,8 @@ use Rattle.pieces.proofs.solving.values_of.Goals as goal
 
 pub loop-piece-preserved : goal.loop-piece-preserved
 loop-piece-preserved c =
-    pushed c.as_slice.result.now c.loop-piece.invariant c.in_ok-extend_from_slice.was c.extend_from_slice.ensures.items
-    ∙ ap (λ t. flat_map (λ p. vec_items p.bytes) (take c.loop-piece.piece-index c.args.pieces.now) ++ t) c.as_slice.ensures.value
+    pushed c.deref.result.now c.loop-piece.invariant c.in_ok-extend_from_slice.was c.extend_from_slice.ensures.items
+    ∙ ap (λ t. flat_map (λ p. vec_items p.bytes) (take c.loop-piece.piece-index c.args.pieces.now) ++ t) c.deref.ensures.value
     ∙ gathered_more (λ p. vec_items p.bytes) c.args.pieces.now c.loop-piece.piece-index c.piece-item.result (omega arith) c.piece-item.is
 
 pub returns : goal.returns

@@ -11,7 +11,7 @@ returns-in_err-object c =
 
 pub returns : goal.returns
 returns c =
-    let object = c.as_slice.result.now in
-    let worked : Worked c.args.need c.args.pieces.now object = rw c.as_slice.ensures.value c.in_ok-object.ensures.told in
+    let object = c.deref.result.now in
+    let worked : Worked c.args.need c.args.pieces.now object = rw c.deref.ensures.value c.in_ok-object.ensures.told in
     remade c.args.need c.args.drive c.args.pieces.now c.make.result
     (MatchResult-weaker c.make.result c.make.ensures (λ v m. (object, worked, m)) (λ e n. inr (object, worked, n)))
