@@ -1,7 +1,8 @@
 -- What one turn of a loop over digits keeps, and that hexadecimal digits read as what they were written of.
 use Rattle.std.proofs.Common.{◌≡◌, ℕ, ◌+◌, ◌-◌, ◌*◌, ◌/◌, ◌%◌, ◌^◌, ◌<◌, ◌≤◌, min, true, false, cond, ◌&&◌, leb, List, [], ◌∷◌, ◌++◌, length, get_or, drop, Some, None, Ok, Err, Result, sym, refl, ap, ◌∙◌, ⊎_elim, append_assoc, arith}
-use Rattle.std.proofs.lemmas.List.{at_drop_more, at_drop_all}
+use Rattle.std.proofs.lemmas.List.{at_drop_more}
 use Rattle.std.proofs.lemmas.Bool.{cases_lt, lt-ltb, le-ltb, le-leb, lt-leb}
+use Rattle.std.specs.Fmt.{digit_glyph}
 use Rattle.std.specs.List.{AllByRecursion}
 use Rattle.script.specs.declared.error.LineError.{LineError}
 use Rattle.script.specs.Digits.{decimal, nibble, byte_of, before, from_hex, symbol, to_hex}
@@ -27,19 +28,21 @@ saturated n d ds =
     (λ high. capped _ _ (omega arith) (omega arith) ds)
     (cases_lt (n * 10 + d) (2 ^ 64 - 1))
 
-pub to_hex_push : (xs : List ℕ) (b : ℕ) → (to_hex xs ++ symbol (b / 16) ∷ []) ++ symbol (b % 16) ∷ [] ≡ to_hex (xs ++ b ∷ [])
-to_hex_push [] b = refl
+-- the library's digit in lower case
+lower_glyph : (x : ℕ) → digit_glyph false x ≡ symbol x
+lower_glyph x =
+    ⊎_elim
+    (λ low. rw (lt-ltb x 10 low))
+    (λ high. rw (le-ltb x 10 high) (omega arith))
+    (cases_lt x 10)
+
+pub to_hex_push : (xs : List ℕ) (b : ℕ) → to_hex xs ++ digit_glyph false (b / 16) ∷ digit_glyph false (b % 16) ∷ [] ≡ to_hex (xs ++ b ∷ [])
+to_hex_push [] b = rw (lower_glyph (b / 16), lower_glyph (b % 16))
 to_hex_push (x ∷ xs) b = ap (λ r. symbol (x / 16) ∷ symbol (x % 16) ∷ r) (to_hex_push xs b)
 
 module _ (n i : ℕ) (s : List ℕ) (inside : i < length s) where
-  pub number_stop : (leb 48 (get_or s i 0) && leb (get_or s i 0) 57) ≡ false → decimal n (drop i s) ≡ None
-  number_stop e = at_drop_more (decimal n) s i 0 inside ∙ ap (λ t. cond t (decimal (n * 10 + (get_or s i 0 - 48)) (drop (i + 1) s)) None) e
-
   pub number_step : (leb 48 (get_or s i 0) && leb (get_or s i 0) 57) ≡ true → decimal (min (min (n * 10) (2 ^ 64 - 1) + (get_or s i 0 - 48)) (2 ^ 64 - 1)) (drop (i + 1) s) ≡ decimal n (drop i s)
   number_step e = saturated n (get_or s i 0 - 48) (drop (i + 1) s) ∙ sym (at_drop_more (decimal n) s i 0 inside ∙ ap (λ t. cond t (decimal (n * 10 + (get_or s i 0 - 48)) (drop (i + 1) s)) None) e)
-
-pub number_end : (n i : ℕ) (s : List ℕ) → n < 2 ^ 64 → length s ≤ i → decimal n (drop i s) ≡ Some n
-number_end n i s h past = at_drop_all (decimal n) s i past ∙ ap Some (omega arith)
 
 -- one more pair of digits
 pub pair_step : (xs : List ℕ) (x : ℕ) (s : List ℕ) → 2 ≤ length s → byte_of (nibble (get_or s 0 0)) (nibble (get_or s 1 0)) ≡ Some x → onto (xs ++ x ∷ []) (from_hex (drop 2 s)) ≡ onto xs (from_hex s)

@@ -1,5 +1,5 @@
--- What follows a command's first word: first how many words, then each of them from the left. Assumes nothing.
-use Rattle.std.specs.Prelude.{ℕ, cond, List, length, Some, None, Ok, Err, vec_items, codes, Option, Result, Vec, ◌==◌}
+-- What the words after a command's first word are: first how many there are, then each of them from the left. Assumes nothing.
+use Rattle.std.specs.Prelude.{ℕ, cond, List, [], ◌∷◌, Ok, Err, vec_items, codes, Result, Vec, ◌==◌}
 use Rattle.std.specs.Option.{ok_or}
 use Rattle.std.specs.declared.alloc.Global.{Global}
 use Rattle.std.specs.Str.{bytes_eq}
@@ -8,60 +8,62 @@ use Rattle.script.specs.declared.command.StopAt.TheVariants.{Now, Slot, FileOld,
 use Rattle.script.specs.declared.error.LineError.{LineError}
 use Rattle.script.specs.declared.error.LineError.TheVariants.{UnknownCommand, MissingWord, TooManyWords, NotNumber}
 use Rattle.script.specs.Digits.{number_of, from_hex}
-use Rattle.script.specs.Words.{Parts}
-
--- What is wrong with how many words there are, where `last` is the last that must be there and `beyond` the next after those that may be.
-abbrev pub arity : (last beyond : List ℕ) → Option LineError
-arity last beyond =
-    cond (length last == 0) (Some MissingWord)
-    (cond (length beyond == 0) None (Some TooManyWords))
-
--- An answer, unless something is wrong.
-abbrev pub unless : {A : Type 0} → Option LineError → Result A LineError → Result A LineError
-unless None r = r
-unless (Some e) r = Err e
 
 -- What `f` makes of an answer.
 abbrev pub and_then : {A B : Type 0} → Result A LineError → (A → Result B LineError) → Result B LineError
 and_then (Ok a) f = f a
 and_then (Err e) f = Err e
 
--- The number that stands as the word at a place of the line.
+-- The number that stands as the word at a place of the line. Places count from 1, and the command's word has the first.
 abbrev pub number_at : ℕ → List ℕ → Result ℕ LineError
 number_at place word = ok_or (number_of word) (NotNumber place)
 
--- The words that follow, for each kind of command. Places of words count from 1, and the first is the command's.
-abbrev pub one_number : Parts → Result ℕ LineError
-one_number p = unless (arity p.first p.second) (number_at 2 p.first)
+-- The words that follow, for each kind of command.
+abbrev pub nothing : List (List ℕ) → Result Unit LineError
+nothing [] = Ok tt
+nothing (_ ∷ _) = Err TooManyWords
 
-abbrev pub two_numbers : Parts → Result (ℕ × ℕ) LineError
-two_numbers p =
-    unless (arity p.second p.third)
-    (and_then (number_at 2 p.first) (λ a. and_then (number_at 3 p.second) (λ b. Ok (a, b))))
+abbrev pub one_number : List (List ℕ) → Result ℕ LineError
+one_number [] = Err MissingWord
+one_number (a ∷ []) = number_at 2 a
+one_number (_ ∷ _ ∷ _) = Err TooManyWords
 
-abbrev pub three_numbers : Parts → Result (ℕ × ℕ × ℕ) LineError
-three_numbers p =
-    unless (arity p.third p.more)
-    (and_then (number_at 2 p.first) (λ a. and_then (number_at 3 p.second) (λ b. and_then (number_at 4 p.third) (λ c. Ok (a, b, c)))))
+abbrev pub two_numbers : List (List ℕ) → Result (ℕ × ℕ) LineError
+two_numbers [] = Err MissingWord
+two_numbers (_ ∷ []) = Err MissingWord
+two_numbers (a ∷ b ∷ []) = and_then (number_at 2 a) (λ a. and_then (number_at 3 b) (λ b. Ok (a, b)))
+two_numbers (_ ∷ _ ∷ _ ∷ _) = Err TooManyWords
 
--- The bytes may be left out: then there are none.
-abbrev pub number_and_bytes : Parts → Result (ℕ × List ℕ) LineError
-number_and_bytes p =
-    unless (arity p.first p.third)
-    (and_then (number_at 2 p.first) (λ a. and_then (from_hex p.second) (λ bytes. Ok (a, bytes))))
+abbrev pub three_numbers : List (List ℕ) → Result (ℕ × ℕ × ℕ) LineError
+three_numbers [] = Err MissingWord
+three_numbers (_ ∷ []) = Err MissingWord
+three_numbers (_ ∷ _ ∷ []) = Err MissingWord
+three_numbers (a ∷ b ∷ c ∷ []) = and_then (number_at 2 a) (λ a. and_then (number_at 3 b) (λ b. and_then (number_at 4 c) (λ c. Ok (a, b, c))))
+three_numbers (_ ∷ _ ∷ _ ∷ _ ∷ _) = Err TooManyWords
+
+-- A number and bytes. The bytes may be left out: then there are none.
+abbrev pub number_and_bytes : List (List ℕ) → Result (ℕ × List ℕ) LineError
+number_and_bytes [] = Err MissingWord
+number_and_bytes (n ∷ []) = and_then (number_at 2 n) (λ a. Ok (a, []))
+number_and_bytes (n ∷ hex ∷ []) = and_then (number_at 2 n) (λ a. and_then (from_hex hex) (λ bytes. Ok (a, bytes)))
+number_and_bytes (_ ∷ _ ∷ _ ∷ _) = Err TooManyWords
 
 -- The same, with the bytes of the Vec.
 abbrev pub with_items : ℕ × Vec ℕ Global → ℕ × List ℕ
 with_items r = (r.0, vec_items r.1)
 
 -- `give up O`.
-abbrev pub give_up : Parts → Result ℕ LineError
-give_up p = unless (arity p.second p.third) (cond (bytes_eq p.first (codes "up")) (number_at 3 p.second) (Err UnknownCommand))
+abbrev pub give_up : List (List ℕ) → Result ℕ LineError
+give_up [] = Err MissingWord
+give_up (_ ∷ []) = Err MissingWord
+give_up (up ∷ object ∷ []) = cond (bytes_eq up (codes "up")) (number_at 3 object) (Err UnknownCommand)
+give_up (_ ∷ _ ∷ _ ∷ _) = Err TooManyWords
 
 -- `stop old`, `stop new` or `stop K`; `stop 0` stops now.
-abbrev pub stop_at : Parts → Result StopAt LineError
-stop_at p =
-    unless (arity p.first p.second)
-    (cond (bytes_eq p.first (codes "old")) (Ok FileOld)
-    (cond (bytes_eq p.first (codes "new")) (Ok FileNew)
-    (and_then (number_at 2 p.first) (λ k. Ok (cond (k == 0) Now (Slot k))))))
+abbrev pub stop_at : List (List ℕ) → Result StopAt LineError
+stop_at [] = Err MissingWord
+stop_at (at ∷ []) =
+    cond (bytes_eq at (codes "old")) (Ok FileOld)
+    (cond (bytes_eq at (codes "new")) (Ok FileNew)
+    (and_then (number_at 2 at) (λ k. Ok (cond (k == 0) Now (Slot k)))))
+stop_at (_ ∷ _ ∷ _) = Err TooManyWords

@@ -1,21 +1,18 @@
 -- The words of a line: the runs of bytes other than spaces. Assumes nothing.
-use Rattle.std.specs.Prelude.{ℕ, cond, List, [], ◌∷◌, ◌==◌}
-use Rattle.script.specs.declared.words.Words.{Words}
+use Rattle.std.specs.Prelude.{ℕ, zero, suc, cond, not, List, [], ◌∷◌, length, drop, ◌==◌}
+use Rattle.std.specs.List.{prefix_len, take_while}
 
 -- A line without the spaces at its start.
 abbrev pub trimmed : List ℕ → List ℕ
-trimmed [] = []
-trimmed (b ∷ bs) = cond (b == 32) (trimmed bs) (b ∷ bs)
+trimmed line = drop (prefix_len (λ b. b == 32) line) line
 
 -- The bytes before the first space.
 abbrev pub front : List ℕ → List ℕ
-front [] = []
-front (b ∷ bs) = cond (b == 32) [] (b ∷ front bs)
+front line = take_while (λ b. not (b == 32)) line
 
 -- The bytes from the first space on.
 abbrev pub back : List ℕ → List ℕ
-back [] = []
-back (b ∷ bs) = cond (b == 32) (b ∷ bs) (back bs)
+back line = drop (prefix_len (λ b. not (b == 32)) line) line
 
 -- A line's first word, empty where it has none.
 abbrev pub word : List ℕ → List ℕ
@@ -25,29 +22,7 @@ word line = front (trimmed line)
 abbrev pub after : List ℕ → List ℕ
 after line = back (trimmed line)
 
--- The first five words of a line, each empty where there is none: a command has four at most, and the fifth shows that there are more.
-pub record Parts : Type 0 where
-  pub name : List ℕ
-  pub first : List ℕ
-  pub second : List ℕ
-  pub third : List ℕ
-  pub more : List ℕ
-
-abbrev pub parts : List ℕ → Parts
-parts line = record {
-  name = word line;
-  first = word (after line);
-  second = word (after (after line));
-  third = word (after (after (after line)));
-  more = word (after (after (after (after line))));
-}
-
--- What the slices of `Words` hold.
-abbrev pub seen : Words → Parts
-seen w = record {
-  name = w.name.now;
-  first = w.first.now;
-  second = w.second.now;
-  third = w.third.now;
-  more = w.more.now;
-}
+-- The first `n` words of a line, or all where there are fewer.
+abbrev pub first_words : ℕ → List ℕ → List (List ℕ)
+first_words zero line = []
+first_words (suc n) line = cond (length (word line) == 0) [] (word line ∷ first_words n (after line))

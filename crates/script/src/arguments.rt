@@ -1,27 +1,12 @@
 // What follows a command's first word.
-ghost use Rattle.std.specs.Prelude.{◌≡◌, Some, None, MatchResult};
-ghost use Rattle.script.specs.Arguments.{arity, number_at, one_number, two_numbers, number_and_bytes, with_items, give_up, stop_at, three_numbers};
+ghost use Rattle.std.specs.Prelude.{◌≡◌, map};
+ghost use Rattle.script.specs.Arguments.{number_at, nothing, one_number, two_numbers, three_numbers, number_and_bytes, with_items, give_up, stop_at};
 ghost use Rattle.script.specs.Errors.{Gives};
-ghost use Rattle.script.specs.Words.{seen};
 
-use crate::command::{StopAt, same};
+use crate::command::StopAt;
 use crate::digits::{number, unhex};
 use crate::error::LineError;
-use crate::words::Words;
 use std::alloc::Global;
-
-// Refuses a line that ends before the word `last`, or goes on with `beyond`.
-pub fn expect(last: &[u8], beyond: &[u8]) -> Result<(), LineError>
-    ensures { MatchResult result (λ _. arity last.now beyond.now ≡ None) (λ e. arity last.now beyond.now ≡ Some e) }
-{
-    if last.is_empty() {
-        Err(LineError::MissingWord)
-    } else if !beyond.is_empty() {
-        Err(LineError::TooManyWords)
-    } else {
-        Ok(())
-    }
-}
 
 // The number that stands as the word at `place` of the line.
 fn number_at(word: &[u8], place: u8) -> Result<u64, LineError>
@@ -30,66 +15,84 @@ fn number_at(word: &[u8], place: u8) -> Result<u64, LineError>
     number(word).ok_or(LineError::NotNumber(place))
 }
 
-pub fn one_number(words: Words<'_>) -> Result<u64, LineError>
-    ensures { result ≡ one_number (seen words.entry) }
+pub fn nothing(words: &[&[u8]]) -> Result<(), LineError>
+    ensures { result ≡ nothing (map (λ w. w.now) words.now) }
 {
-    expect(words.first, words.second)?;
-    number_at(words.first, 2)
+    match words {
+        [] => Ok(()),
+        _ => Err(LineError::TooManyWords),
+    }
 }
 
-pub fn two_numbers(words: Words<'_>) -> Result<(u64, u64), LineError>
-    ensures { result ≡ two_numbers (seen words.entry) }
+// One generic function would give an array, and of what a closure makes of an array the proof of `command` learns nothing: so these are three.
+pub fn one_number(words: &[&[u8]]) -> Result<u64, LineError>
+    ensures { result ≡ one_number (map (λ w. w.now) words.now) }
 {
-    expect(words.second, words.third)?;
-    let first = number_at(words.first, 2)?;
-    let second = number_at(words.second, 3)?;
-    Ok((first, second))
+    match words {
+        [] => Err(LineError::MissingWord),
+        [a] => number_at(a, 2),
+        _ => Err(LineError::TooManyWords),
+    }
 }
 
-pub fn three_numbers(words: Words<'_>) -> Result<(u64, u64, u64), LineError>
-    ensures { result ≡ three_numbers (seen words.entry) }
+pub fn two_numbers(words: &[&[u8]]) -> Result<(u64, u64), LineError>
+    ensures { result ≡ two_numbers (map (λ w. w.now) words.now) }
 {
-    expect(words.third, words.more)?;
-    let first = number_at(words.first, 2)?;
-    let second = number_at(words.second, 3)?;
-    let third = number_at(words.third, 4)?;
-    Ok((first, second, third))
+    match words {
+        [] | [_] => Err(LineError::MissingWord),
+        [a, b] => Ok((number_at(a, 2)?, number_at(b, 3)?)),
+        _ => Err(LineError::TooManyWords),
+    }
 }
 
-// The bytes may be left out: then there are none.
-pub fn number_and_bytes(heap: Global, words: Words<'_>) -> Result<(u64, Vec<u8>), LineError>
-    ensures { Gives (Unit {0}) with_items (number_and_bytes (seen words.entry)) result }
+pub fn three_numbers(words: &[&[u8]]) -> Result<(u64, u64, u64), LineError>
+    ensures { result ≡ three_numbers (map (λ w. w.now) words.now) }
 {
-    expect(words.first, words.third)?;
-    let object = number_at(words.first, 2)?;
-    let bytes = unhex(heap, words.second)?;
-    Ok((object, bytes))
+    match words {
+        [] | [_] | [_, _] => Err(LineError::MissingWord),
+        [a, b, c] => Ok((number_at(a, 2)?, number_at(b, 3)?, number_at(c, 4)?)),
+        _ => Err(LineError::TooManyWords),
+    }
+}
+
+// A number and bytes. The bytes may be left out: then there are none.
+pub fn number_and_bytes(heap: Global, words: &[&[u8]]) -> Result<(u64, Vec<u8>), LineError>
+    ensures { Gives (Unit {0}) with_items (number_and_bytes (map (λ w. w.now) words.now)) result }
+{
+    match words {
+        [] => Err(LineError::MissingWord),
+        [n] => Ok((number_at(n, 2)?, Vec::new(heap))),
+        [n, hex] => {
+            let n = number_at(n, 2)?;
+            Ok((n, unhex(heap, hex)?))
+        }
+        _ => Err(LineError::TooManyWords),
+    }
 }
 
 // The words after `give`.
-pub fn give_up(words: Words<'_>) -> Result<u64, LineError>
-    ensures { result ≡ give_up (seen words.entry) }
+pub fn give_up(words: &[&[u8]]) -> Result<u64, LineError>
+    ensures { result ≡ give_up (map (λ w. w.now) words.now) }
 {
-    expect(words.second, words.third)?;
-    if same(words.first, b"up") {
-        number_at(words.second, 3)
-    } else {
-        Err(LineError::UnknownCommand)
+    match words {
+        [] | [_] => Err(LineError::MissingWord),
+        [b"up", object] => number_at(object, 3),
+        [_, _] => Err(LineError::UnknownCommand),
+        _ => Err(LineError::TooManyWords),
     }
 }
 
-pub fn stop_at(words: Words<'_>) -> Result<StopAt, LineError>
-    ensures { result ≡ stop_at (seen words.entry) }
+pub fn stop_at(words: &[&[u8]]) -> Result<StopAt, LineError>
+    ensures { result ≡ stop_at (map (λ w. w.now) words.now) }
 {
-    expect(words.first, words.second)?;
-    if same(words.first, b"old") {
-        return Ok(StopAt::FileOld);
-    }
-    if same(words.first, b"new") {
-        return Ok(StopAt::FileNew);
-    }
-    match number_at(words.first, 2)? {
-        0 => Ok(StopAt::Now),
-        slot => Ok(StopAt::Slot(slot)),
+    match words {
+        [] => Err(LineError::MissingWord),
+        [b"old"] => Ok(StopAt::FileOld),
+        [b"new"] => Ok(StopAt::FileNew),
+        [slot] => match number_at(slot, 2)? {
+            0 => Ok(StopAt::Now),
+            slot => Ok(StopAt::Slot(slot)),
+        },
+        _ => Err(LineError::TooManyWords),
     }
 }

@@ -1,6 +1,6 @@
 // Decimal numbers and hexadecimal bytes.
 ghost use Rattle.std.specs.Prelude.{◌≡◌, ◌<◌, IfOk, Ok, vec_items, string_bytes};
-ghost use Rattle.script.specs.Digits.{within, decimal, number_of, nibble, byte_of, from_hex, symbol, to_hex};
+ghost use Rattle.script.specs.Digits.{decimal, number_of, nibble, byte_of, from_hex, to_hex};
 ghost use Rattle.script.specs.Errors.{Gives};
 
 use crate::error::LineError;
@@ -30,24 +30,15 @@ fn value_of(word: &[u8]) -> Option<u64>
     Some(n)
 }
 
-fn between(low: u8, high: u8, digit: u8) -> bool
-    ensures { result ≡ within low high digit }
-{
-    low <= digit && digit <= high
-}
-
 // The value of a hexadecimal digit.
 fn value(digit: u8) -> Option<u8>
     ensures { result ≡ nibble digit }
 {
-    if between(b'0', b'9', digit) {
-        Some(digit - b'0')
-    } else if between(b'a', b'f', digit) {
-        Some(digit - b'a' + 10)
-    } else if between(b'A', b'F', digit) {
-        Some(digit - b'A' + 10)
-    } else {
-        None
+    match digit {
+        b'0'..=b'9' => Some(digit - b'0'),
+        b'a'..=b'f' => Some(digit - b'a' + 10),
+        b'A'..=b'F' => Some(digit - b'A' + 10),
+        _ => None,
     }
 }
 
@@ -58,9 +49,7 @@ pub fn unhex(heap: Global, digits: &[u8]) -> Result<Vec<u8>, LineError>
     let mut bytes = Vec::with_capacity(heap, digits.len() / 2)?;
     let mut left = digits;
     while let [high, low, rest @ ..] = left {
-        let Some(byte) = pair(*high, *low) else {
-            return Err(LineError::NotHexadecimal);
-        };
+        let byte = pair(*high, *low).ok_or(LineError::NotHexadecimal)?;
         bytes.push_reserved(byte);
         left = rest;
     }
@@ -75,19 +64,7 @@ pub fn unhex(heap: Global, digits: &[u8]) -> Result<Vec<u8>, LineError>
 fn pair(high: u8, low: u8) -> Option<u8>
     ensures { result ≡ byte_of (nibble high) (nibble low) }
 {
-    let high = value(high)?;
-    let low = value(low)?;
-    Some(high * 16 + low)
-}
-
-// The digit that stands for `x`, in lower case.
-fn digit(x: u8) -> char
-    requires { x < 16 }
-    ensures value { result ≡ symbol x }
-    ensures ascii { result < 128 }
-{
-    let code = if x < 10 { b'0' + x } else { b'a' + (x - 10) };
-    char::from(code)
+    Some(value(high)? * 16 + value(low)?)
 }
 
 // Two digits for each byte, in lower case; read as such, they give the bytes back.
@@ -97,8 +74,7 @@ pub fn hex(heap: Global, bytes: &[u8]) -> Result<String, AllocError>
 {
     let mut text = String::new(heap);
     for b in bytes {
-        text.push(digit(*b / 16))?;
-        text.push(digit(*b % 16))?;
+        write!(text, "{b:02x}")?;
     }
     Ok(text)
 }

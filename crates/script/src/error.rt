@@ -5,7 +5,7 @@ ghost use Rattle.script.specs.declared.error.LineError.TheVariants.{NoMemory};
 use std::alloc::AllocError;
 use std::fmt;
 
-#[derive(Clone, Copy)]
+#[derive(Clone, Copy, PartialEq, Eq, Debug)]
 pub enum LineError {
     UnknownCommand,
     MissingWord,

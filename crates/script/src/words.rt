@@ -1,33 +1,32 @@
 // A line's words: the runs of bytes other than spaces.
-ghost use Rattle.std.specs.Prelude.{◌≡◌};
-ghost use Rattle.script.specs.Words.{trimmed, front, back, word, after, parts, seen};
+ghost use Rattle.std.specs.Prelude.{◌≡◌, ◌≤◌, ◌==◌, not, length, map};
+ghost use Rattle.std.specs.List.{prefix_len, take_while};
+ghost use Rattle.script.specs.Words.{word, after, first_words};
 
-// The first five words of a line, each empty where there is none: no command has more than four.
-#[derive(Clone, Copy)]
-pub struct Words<'a> {
-    pub name: &'a [u8],
-    pub first: &'a [u8],
-    pub second: &'a [u8],
-    pub third: &'a [u8],
-    pub more: &'a [u8],
-}
-
+// The first five words of `line`, each empty where there is none: no command has more than four.
 // No bytes are copied: the words are parts of `line`.
-pub fn split(line: &[u8]) -> Words<'_>
-    ensures { seen result ≡ parts line.now }
+pub fn split(line: &[u8]) -> [&[u8]; 5]
+    ensures { map (λ w. w.now) (take_while (λ w. not (length w.now == 0)) result) ≡ first_words 5 line.now }
 {
     let (name, rest) = next_word(line);
     let (first, rest) = next_word(rest);
     let (second, rest) = next_word(rest);
     let (third, rest) = next_word(rest);
     let (more, _) = next_word(rest);
-    Words {
-        name,
-        first,
-        second,
-        third,
-        more,
-    }
+    [name, first, second, third, more]
+}
+
+// The words before the first that is empty.
+pub fn present<'w, 'a>(words: &'w [&'a [u8]]) -> &'w [&'a [u8]]
+    ensures { result.now ≡ take_while (λ w. not (length w.now == 0)) words.now }
+{
+    &words[..present_len(words)]
+}
+
+fn present_len(words: &[&[u8]]) -> usize
+    ensures { result ≡ prefix_len (λ w. not (length w.now == 0)) words.now }
+{
+    words.iter().take_while(|word| !word.is_empty()).count()
 }
 
 // The first word of `line`, and what follows it.
@@ -35,30 +34,22 @@ fn next_word(line: &[u8]) -> (&[u8], &[u8])
     ensures found { result.0.now ≡ word line.now }
     ensures rest { result.1.now ≡ after line.now }
 {
-    cut(skip(line))
+    let line = &line[spaces_len(line)..];
+    line.split_at(word_len(line))
 }
 
-// `line` from its first byte on that isn't a space.
-fn skip(line: &[u8]) -> &[u8]
-    ensures { result.now ≡ trimmed line.now }
+// How many spaces `line` begins with.
+fn spaces_len(line: &[u8]) -> usize
+    ensures count { result ≡ prefix_len (λ b. b == 32) line.now }
+    ensures within { result ≤ length line.now }
 {
-    for (i, b) in line.iter().enumerate() {
-        if *b != b' ' {
-            return &line[i..];
-        }
-    }
-    &[]
+    line.iter().take_while(|b| **b == b' ').count()
 }
 
-// `line` before its first space, and from there on.
-fn cut(line: &[u8]) -> (&[u8], &[u8])
-    ensures found { result.0.now ≡ front line.now }
-    ensures rest { result.1.now ≡ back line.now }
+// How many bytes stand before the first space of `line`.
+fn word_len(line: &[u8]) -> usize
+    ensures count { result ≡ prefix_len (λ b. not (b == 32)) line.now }
+    ensures within { result ≤ length line.now }
 {
-    for (i, b) in line.iter().enumerate() {
-        if *b == b' ' {
-            return line.split_at(i);
-        }
-    }
-    line.split_at(line.len())
+    line.iter().take_while(|b| **b != b' ').count()
 }
