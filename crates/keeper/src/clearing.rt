@@ -7,7 +7,7 @@ ghost use Rattle.keeper.specs.Shown.{act_of, reading_of, readings_of};
 use crate::object::{Effect, Entry};
 use std::alloc::AllocError;
 
-// Which of an object's pieces are to go.
+// Which of an object's pieces are to go. `drives::Rule` names versions; with it and an `Option` of a drive in its place, each step would say the same in two parts.
 #[derive(Clone, Copy)]
 pub enum Rule {
     // on a drive, all versions but one

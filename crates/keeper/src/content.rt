@@ -4,9 +4,7 @@ ghost use Rattle.keeper.specs.Shown.{Fitting};
 
 use crate::refusal::Refusal;
 use crate::writing::Content;
-
-// The most bytes that an object has.
-const LONGEST: usize = 65_536;
+use pieces::MAX;
 
 impl TryFrom<Vec<u8>> for Content {
     type Error = Refusal;
@@ -14,7 +12,7 @@ impl TryFrom<Vec<u8>> for Content {
     ghost try_from_gives = { λ bytes r. Fitting (vec_items bytes) r };
 
     fn try_from(bytes: Vec<u8>) -> Result<Content, Refusal> {
-        if bytes.len() > LONGEST {
+        if bytes.len() > MAX {
             return Err(Refusal::TooLong);
         }
         Ok(Content { bytes })
