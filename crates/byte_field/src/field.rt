@@ -6,6 +6,7 @@ ghost use Rattle.byte_field.specs.Field.{Field};
 // The bits of x^4 + x^3 + x + 1, which is what x^8 comes to. (With x^8 itself the polynomial is 0x11b.)
 const POLYNOMIAL: u8 = 0x1b;
 
+#[tactic(auto, using(crate::proofs::Sums::byte_xor))]
 pub fn sum(a: u8, b: u8) -> u8
     ensures { result ≡ add a b }
 {
@@ -13,6 +14,7 @@ pub fn sum(a: u8, b: u8) -> u8
 }
 
 // `byte` if the bit of `number` at that place is set, else 0. Without a branch, so that a loop over many bytes can be made wide.
+#[tactic(auto, using(crate::proofs::Masks::masked))]
 fn where_bit(number: u8, place: u8, byte: u8) -> u8
     requires { place < 8 }
     ensures { result ≡ (if nat_eq (number / 2 ^ place % 2) 1 then byte else 0) }
@@ -22,6 +24,7 @@ fn where_bit(number: u8, place: u8, byte: u8) -> u8
 }
 
 // `byte` times x.
+#[tactic(auto, using(crate::proofs::Masks::shifted))]
 fn doubled(byte: u8) -> u8
     ensures { result ≡ twice byte }
 {
@@ -41,6 +44,7 @@ pub fn product(a: u8, b: u8) -> u8
     total
 }
 
+#[tactic(auto, unfolding(crate::specs::Byte::fourth))]
 fn fourth_power(a: u8) -> u8
     ensures { result ≡ fourth a }
 {
@@ -49,6 +53,7 @@ fn fourth_power(a: u8) -> u8
 }
 
 // The 254th power of `a`, by eleven products.
+#[tactic(auto, unfolding(crate::specs::Byte::inv))]
 fn power_254(a: u8) -> u8
     ensures { result ≡ inv a }
 {

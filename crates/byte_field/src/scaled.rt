@@ -8,6 +8,7 @@ use crate::field::{product, sum};
 pub fn add_scaled(dst: &mut [u8], factor: u8, src: &[u8])
     ensures { dst.new ≡ add_scaled factor dst.old src.now }
 {
+    // By index, since after `iter_mut().zip(..)` a proof knows nothing of what was written.
     let shared = dst.len().min(src.len());
     for i in 0..shared {
         dst[i] = sum(dst[i], product(factor, src[i]));

@@ -1,7 +1,6 @@
--- Cells of a matrix that stands row after row in one list: where they stand, and what a write to one row leaves.
+-- Cells of a matrix that stands row after row in one list: where its rows stand, and what a write to one row leaves.
 use Rattle.std.proofs.Common.{◌≡◌, ℕ, suc, ◌+◌, ◌-◌, ◌*◌, ◌<◌, ◌≤◌, List, length, get_or, take, drop, sym, refl, ap, ◌∙◌, inl, inr, mul-le-mul_right, suc-mul, arith}
 use borrow.Rule.Slice.PartMut.{put_mid}
-use lib.Arith.{digits_lt}
 use Rattle.std.proofs.lemmas.List.{length-append, length-take, length-take-le, length-drop, get_or-take, get_or-drop}
 use Rattle.std.proofs.lemmas.Slice.{take-put_mid_below, drop-put_mid, between-put_mid}
 use Rattle.std.proofs.lemmas.Bool.{cases_order}
@@ -10,10 +9,7 @@ use Rattle.byte_field.specs.Slices.{add_scaled}
 use Rattle.byte_field.proofs.Slices.{length_add_scaled, add_scaled_get_or}
 use Rattle.elimination.specs.Matrix.{cell, RowAdded}
 
--- A cell stands in its matrix, and so does a row.
-pub cell_within : (k w i t n : ℕ) → n ≡ k * w → i < k → t < w → i * w + t < n
-cell_within k w i t n e hi ht = let h : i * w + t < k * w = digits_lt hi ht in omega arith
-
+-- A row stands in its matrix.
 pub row_within : (k w i n : ℕ) → n ≡ k * w → i < k → i * w + w ≤ n
 row_within k w i n e hi = let h : suc i * w ≤ k * w = mul-le-mul_right w hi in let s : suc i * w ≡ i * w + w = suc-mul i w in omega arith
 

@@ -8,7 +8,7 @@ use Rattle.std.proofs.lemmas.Bool.{cases_eq, cases_lt}
 use Rattle.byte_field.specs.Byte.{add, mul, inv, IsByte}
 use Rattle.byte_field.proofs.Laws as laws
 use Rattle.elimination.specs.Polynomial.{Bytes}
-use Rattle.elimination.specs.Matrix.{cell, column, combine, Vanishes, Independent, Reduced, RowAdded, Led, Cleared, leading}
+use Rattle.elimination.specs.Matrix.{cell, column, combine, Vanishes, Independent, Reduced, Led, Cleared, leading}
 use Rattle.elimination.proofs.Combine.{combine_byte, combine_add, combine_same, combine_zero, combine_unit, with_one, with_one_length, with_one_bytes, with_one_some, with_one_combine}
 
 -- An element of a list of bytes is a byte, and so is what is read past its end.
@@ -254,46 +254,3 @@ cleared_reduced k w q first m m' red clear one-q hq hk =
               combine_add zs (cell w m i) (cell w m q) (cell w m' i) (cell w m i q) bz (byte i q) (byte q) (λ t lt. clear.there i t hi (omega arith) ne) in
               vanished (combine zs (cell w m i)) (combine zs (cell w m q)) (cell w m i q) (combine zs (cell w m' i)) (combine_byte zs (cell w m i)) sum (v.at i hi) row_q
         ]
-
--- One row more is cleared, or, if it is row q, passed over.
-pub clear_more :
-    (i w q : ℕ) (row first m m' : List ℕ) → Cleared i w q first m → RowAdded w i (cell w m i q) row m m' →
-    ((t : ℕ) → t < w → get_or row t 0 ≡ cell w first q t) → q < w → (i ≡ q → ⊥) → Cleared (i + 1) w q first m'
-clear_more i w q row first m m' clear added copied hq ne =
-    record {
-      long = added.long ∙ clear.long;
-      there = there;
-      after = λ j t l h. added.elsewhere j t h (λ e. omega arith) ∙ clear.after j t (omega arith) h;
-      same = λ t h. added.elsewhere q t h (λ e. ne (sym e)) ∙ clear.same t h;
-    }
-  where
-    there : (j t : ℕ) → j < i + 1 → t < w → (j ≡ q → ⊥) → cell w m' j t ≡ add (cell w first j t) (mul (cell w first j q) (cell w first q t))
-    there j t l h ne' =
-        elim (cases_eq j i) [
-          | inl e ↦
-              let sum : cell w m' i t ≡ add (cell w m i t) (mul (cell w m i q) (get_or row t 0)) = added.there t h in
-              let here : cell w m' i t ≡ add (cell w first i t) (mul (cell w first i q) (cell w first q t)) =
-              cc (sum, clear.after i t (omega arith) h, clear.after i q (omega arith) hq, copied t h) in
-              ap (λ (n : ℕ). cell w m' n t) e ∙ here
-              ∙ ap (λ (n : ℕ). add (cell w first n t) (mul (cell w first n q) (cell w first q t))) (sym e)
-          | inr ne'' ↦ added.elsewhere j t h ne'' ∙ clear.there j t (omega arith) h ne'
-        ]
-
-pub clear_skip : (i w q : ℕ) (first m : List ℕ) → Cleared i w q first m → i ≡ q → Cleared (i + 1) w q first m
-clear_skip i w q first m clear e =
-    record {
-      long = clear.long;
-      there = λ j t l h ne. clear.there j t (let apart : j ≡ i → ⊥ = λ e'. ne (e' ∙ e) in omega arith) h ne;
-      after = λ j t l h. clear.after j t (omega arith) h;
-      same = clear.same;
-    }
-
--- Before the first row nothing has changed.
-pub none_cleared : (w q : ℕ) (first m : List ℕ) → m ≡ first → Cleared 0 w q first m
-none_cleared w q first m e =
-    record {
-      long = ap length e;
-      there = λ j t l h ne. absurd (omega arith);
-      after = λ j t l h. ap (λ (xs : List ℕ). cell w xs j t) e;
-      same = λ t h. ap (λ (xs : List ℕ). cell w xs q t) e;
-    }

@@ -17,27 +17,9 @@ fn push_powers(cells: &mut Vec<u8>, x: u8, k: usize) -> Result<(), AllocError>
     Ok(())
 }
 
-// A row for each point: the powers of the point, and then the values there. `size` is how many bytes that makes.
-fn rows_of(
-    heap: Global,
-    points: &[u8],
-    values: &[u8],
-    width: usize,
-    size: usize,
-) -> Result<Vec<u8>, AllocError>
-    requires { length values.now ≡ length points.now * width }
-    ensures { IfOk result (λ v. v.items ≡ matrix_of points.now values.now width) }
-{
-    let mut cells = Vec::with_capacity(heap, size)?;
-    for (i, x) in points.iter().enumerate() {
-        push_powers(&mut cells, *x, points.len())?;
-        cells.extend_from_slice(&values[i * width..i * width + width])?;
-    }
-    Ok(cells)
-}
-
 impl Matrix {
-    // The matrix of the powers of the points and of the values there, of which each point has `width`.
+    // A row for each point: the powers of the point, and then the values there, `width` of them. Those are told by the point's number, since `width` may be 0, and
+    // no chunks have 0 bytes.
     pub fn of(
         heap: Global,
         points: &[u8],
@@ -51,7 +33,11 @@ impl Matrix {
         let rows = points.len();
         let wide = rows.checked_add(width).ok_or(AllocError)?;
         let size = rows.checked_mul(wide).ok_or(AllocError)?;
-        let cells = rows_of(heap, points, values, width, size)?;
+        let mut cells = Vec::with_capacity(heap, size)?;
+        for (i, x) in points.iter().enumerate() {
+            push_powers(&mut cells, *x, rows)?;
+            cells.extend_from_slice(&values[i * width..i * width + width])?;
+        }
         let copied = vec![in heap; 0; wide]?;
         Ok(Matrix {
             cells,

@@ -1,8 +1,8 @@
--- Chains and loops that test or gather a part of each element of a list.
-use Rattle.std.proofs.Common.{◌≡◌, ℕ, ◌+◌, ◌<◌, List, [], ◌∷◌, ◌++◌, map, length, get_or, take, sym, ap, ◌∙◌, subst, arith}
-use Rattle.std.specs.List.{flat_map, AllByRecursion, AllWithin, HoldsAt}
+-- Chains that test a part of each element of a list.
+use Rattle.std.proofs.Common.{ℕ, ◌<◌, List, [], ◌∷◌, map, length, get_or, sym, subst, arith}
+use Rattle.std.specs.List.{AllByRecursion, AllWithin, HoldsAt}
 use Rattle.std.proofs.ByRecursion.{All-map, All-get_or, all_from_every}
-use Rattle.std.proofs.lemmas.List.{take_more, get_or-map, length-map, flat_map_more}
+use Rattle.std.proofs.lemmas.List.{get_or-map, length-map}
 
 -- All parts are as they should be where the part of each element is.
 pub all_parts : {X Y : Type 0} (f : X → Y) (P : Y → Type 0) (xs : List X) → AllWithin (λ x. P (f x)) xs 0 (length xs) → AllByRecursion P (map f xs)
@@ -17,8 +17,3 @@ part_is f P xs k d h all =
 pub not_all_parts : {X Y : Type 0} (f : X → Y) (P : Y → Type 0) (xs : List X) (k : ℕ) → k < length xs → HoldsAt (λ x. P (f x) → ⊥) xs k → AllByRecursion P (map f xs) → ⊥
 not_all_parts f P [] k h fails all = absurd (omega arith)
 not_all_parts f P (x ∷ xs) k h fails all = fails x (part_is f P (x ∷ xs) k x h all)
-
--- One more element is gathered.
-pub gathered_more : {X Y : Type 0} (f : X → List Y) (xs : List X) (i : ℕ) (x : X) → i < length xs → x ≡ get_or xs i x → flat_map f (take i xs) ++ f x ≡ flat_map f (take (i + 1) xs)
-gathered_more f xs i x h is =
-    flat_map_more f [] (take i xs) x ∙ ap (λ y. flat_map f (take i xs ++ y ∷ [])) is ∙ ap (flat_map f) (sym (take_more xs i x h))

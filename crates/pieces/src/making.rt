@@ -62,26 +62,19 @@ impl Rows {
         self.flat.len() / self.need.count
     }
 
-    // Writes into a piece of zeros the values of the rows at `x`, by Horner's rule, for all rows at once.
+    // Writes into a piece of zeros the values of the rows at `x`, by Horner's rule, for all rows at once. `scale` and `add_column` are two loops, since the compiler
+    // makes only the first one wide.
     fn evaluate(&self, piece: &mut [u8], x: u8)
         requires { (length self.now.flat.items ≡ length piece.old * self.now.need.count) × (piece.old ≡ replicate (length piece.old) 0) }
         ensures { piece.new ≡ values self.now.need.count (length piece.old) x self.now.flat.items }
     {
         for column in (0..self.need.count).rev() {
-            self.step(piece, x, column);
+            scale(piece, x);
+            self.add_column(piece, column);
         }
     }
 
-    // Multiplies the piece by `x` and adds a column of the rows to it. These are two loops, since the compiler makes only the first one wide.
-    fn step(&self, piece: &mut [u8], x: u8, column: usize)
-        requires { (column < self.now.need.count) × (length self.now.flat.items ≡ length piece.old * self.now.need.count) }
-        ensures { (r : ℕ) → r < length piece.old → slice_index piece.new r ≡ add (slice_index self.now.flat.items (r * self.now.need.count + column)) (mul x (slice_index piece.old r)) }
-    {
-        scale(piece, x);
-        self.add_column(piece, column);
-    }
-
-    // By the rows' numbers, since after `iter_mut().zip(..)` a proof knows nothing of what was written.
+    // Adds a column of the rows to the piece. By the rows' numbers: after `iter_mut().zip(..)` a proof knows nothing of what was written.
     fn add_column(&self, piece: &mut [u8], column: usize)
         requires { (column < self.now.need.count) × (length self.now.flat.items ≡ length piece.old * self.now.need.count) }
         ensures { (r : ℕ) → r < length piece.old → slice_index piece.new r ≡ add (slice_index self.now.flat.items (r * self.now.need.count + column)) (slice_index piece.old r) }
@@ -94,6 +87,7 @@ impl Rows {
     }
 }
 
+// Multiplies the piece by `x`.
 fn scale(piece: &mut [u8], x: u8)
     ensures { (r : ℕ) → r < length piece.old → slice_index piece.new r ≡ mul x (slice_index piece.old r) }
 {

@@ -1,5 +1,5 @@
 -- The matrix is fit to be reduced, and the reduced one has the coefficients.
-use Rattle.std.proofs.Common.{◌≡◌, ℕ, ◌-◌, List, vec_items, arith}
+use Rattle.std.proofs.Common.{◌≡◌, ℕ, ◌-◌, List, vec_items}
 use Rattle.std.proofs.lemmas.Result.{IfOk-weaker}
 use Rattle.std.specs.Result.{IfOk}
 use Rattle.elimination.specs.Interpolation.{Interpolates}
@@ -9,16 +9,12 @@ use Rattle.elimination.proofs.Shapes.{of_first}
 use Rattle.elimination.proofs.Solution.{ready, finished}
 use Rattle.elimination.proofs.solve.Goals as goal
 
-pub reduce-requires : goal.reduce-requires
-reduce-requires c =
+pub reduce-requires-clause-given : goal.reduce-requires-clause-given
+reduce-requires-clause-given c =
     let points : List ℕ = c.args.points.now in
     let values : List ℕ = c.args.values.now in
-    record {
-      sizes = omega (arith, c.in_ok-m.ensures.shape.0, c.in_ok-m.ensures.shape.1);
-      given =
-          ready points values c.args.width c.requires.1.0 c.in_ok-m.m.rows c.in_ok-m.m.width c.in_ok-m.m.cells.items c.in_ok-m.ensures.shape.0
-          c.in_ok-m.ensures.shape.1 c.in_ok-m.ensures.cells (typed_bytes points c.type_inv.points) (typed_bytes values c.type_inv.values) c.requires.1.1;
-    }
+    ready points values c.args.width c.requires.1.0 c.in_ok-m.m.rows c.in_ok-m.m.width c.in_ok-m.m.cells.items c.in_ok-m.ensures.shape.0
+    c.in_ok-m.ensures.shape.1 c.in_ok-m.ensures.cells (typed_bytes points c.type_inv.points) (typed_bytes values c.type_inv.values) c.requires.1.1
 
 pub returns : goal.returns
 returns c =

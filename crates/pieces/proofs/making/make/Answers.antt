@@ -1,15 +1,8 @@
-use Rattle.std.proofs.Common.{◌≡◌, ℕ, ◌+◌, ◌*◌, List, length, replicate, sym, ap, ◌∙◌, ap₂, arith}
+use Rattle.std.proofs.Common.{◌≡◌, ℕ, ◌+◌, ◌*◌, List, length, sym, ap, ◌∙◌, ap₂, arith}
 use Rattle.std.proofs.lemmas.List.{take_at}
 use Rattle.pieces.specs.Rows.{framed, values, piece_of}
 use Rattle.pieces.proofs.Frame.{rows_of}
 use Rattle.pieces.proofs.making.make.Goals as goal
-
-pub evaluate-requires : goal.evaluate-requires
-evaluate-requires c =
-    let long : length c.deref_mut.result.now ≡ c.count.result = c.deref_mut.ensures.len ∙ c.in_ok-piece.ensures.len in (
-      sym c.in_ok-rows.rows.flat.ok.0 ∙ c.count.ensures ∙ ap (λ k. k * c.in_ok-rows.rows.need.count) (sym long),
-      c.deref_mut.ensures.value ∙ c.in_ok-piece.ensures.items_if_clones_equal (λ y e. e) ∙ ap (λ k. replicate k 0) (sym long),
-    )
 
 pub returns : goal.returns
 unfolding piece_of

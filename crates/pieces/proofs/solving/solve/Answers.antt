@@ -1,7 +1,6 @@
-use Rattle.std.proofs.Common.{ℕ, ◌%◌, vec_items, refl, ap, ◌∙◌, mul_comm}
-use native.Mathlib.Nat.{mul-mod_right}
+use Rattle.std.proofs.Common.{vec_items, refl, ◌∙◌}
 use Rattle.std.proofs.lemmas.Result.{err_from_is_err_and}
-use Rattle.pieces.specs.Given.{IsDrive, parts, width}
+use Rattle.pieces.specs.Given.{IsDrive}
 use Rattle.pieces.proofs.Joining.{rows_found, not_found}
 use Rattle.pieces.proofs.Loops.{part_is}
 use Rattle.pieces.proofs.solving.solve.Goals as goal
@@ -15,15 +14,6 @@ returns-in_err-flat c =
     rw (p.1, p.2)
     (not_found c.args.need.count c.args.pieces.now c.deref.result.now c.deref-2.result.now _ c.requires
     (c.deref.ensures.value ∙ c.in_ok-points.ensures) (c.deref-2.ensures.value ∙ c.in_ok-values.ensures) c.in_err-flat.ensures)
-
-pub invariant_of-result : goal.invariant_of-result
-invariant_of-result c =
-    let need : ℕ = c.args.need.count in
-    let rows =
-    rows_found need c.args.pieces.now c.deref.result.now c.deref-2.result.now (vec_items c.in_ok-flat.flat) c.requires
-    (c.deref.ensures.value ∙ c.in_ok-points.ensures) (c.deref-2.ensures.value ∙ c.in_ok-values.ensures) c.in_ok-flat.ensures in
-    let wide : ℕ = width (parts c.args.pieces.now) in
-    record { whole = ap (λ n. n % need) (c.in_ok-flat.flat.ok.0 ∙ rows.1.long ∙ mul_comm wide need) ∙ mul-mod_right need wide }
 
 pub returns : goal.returns
 returns c =

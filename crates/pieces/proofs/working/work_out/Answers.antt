@@ -1,4 +1,4 @@
-use Rattle.std.proofs.Common.{◌≡◌, ℕ, List, vec_items, sym, ◌∙◌, subst, MatchResult}
+use Rattle.std.proofs.Common.{◌≡◌, ℕ, List, vec_items, ◌∙◌, subst, MatchResult}
 use Rattle.std.proofs.lemmas.Result.{err_from_is_err_and, MatchResult-weaker}
 use Rattle.pieces.specs.Given.{OneLength, RowsOf, Sound}
 use Rattle.pieces.specs.Outcomes.{Read}
@@ -6,12 +6,6 @@ use Rattle.pieces.specs.Refusals.{NotRead, NotWorked}
 use Rattle.pieces.specs.declared.working.Piece.{Piece}
 use Rattle.pieces.proofs.Uniqueness.{outcome, read_worked, not_worked}
 use Rattle.pieces.proofs.working.work_out.Goals as goal
-
-pub returns-in_err-need : goal.returns-in_err-need
-returns-in_err-need c =
-    let p = err_from_is_err_and c.from_residual.result c.from_residual.ensures.1 in
-    let refused = subst (NotWorked c.args.need c.args.pieces.now) (sym c.in_err-need.ensures.0) c.in_err-need.ensures.1 in
-    rw (p.1, p.2) (outcome c.args.need c.args.pieces.now _ refused)
 
 pub returns-in_err-examine : goal.returns-in_err-examine
 returns-in_err-examine c =

@@ -17,10 +17,3 @@ loop-c-preserved c =
     let m : List ℕ = c.args.self.now.cells.items in
     c.in_ok-push_column.ensures ∙ ap (λ (l : List ℕ). l ++ column c.args.self.now.rows c.args.self.now.width m c.loop-c.c) c.loop-c.invariant
     ∙ columns_more c.args.self.now.rows c.args.self.now.width c.loop-c.c m (omega arith) (omega arith)
-
-pub returns : goal.returns
-returns c =
-    let k : ℕ = c.args.self.now.rows in
-    let w : ℕ = c.args.self.now.width in
-    let all : c.loop-c.c ≡ w = omega arith in
-    c.loop-c.invariant ∙ ap (λ n. blocks (λ r. column k (k + (w - k)) c.args.self.now.cells.items (k + r)) (n - k)) all

@@ -1,5 +1,6 @@
-use Rattle.std.proofs.Common.{◌≡◌, ◌-◌, length, get_or, drop, sym, ap, ◌∙◌, arith}
+use Rattle.std.proofs.Common.{◌≡◌, ◌+◌, ◌-◌, ◌*◌, length, get_or, drop, sym, ap, ◌∙◌, arith}
 use Rattle.std.proofs.lemmas.List.{get_or-replicate}
+use Rattle.byte_field.specs.Byte.{add}
 use Rattle.elimination.specs.Polynomial.{value}
 use Rattle.pieces.proofs.Values.{row, past_row, before_column, values_are, row_inside}
 use Rattle.pieces.proofs.rows.Rows.evaluate.Goals as goal
@@ -11,7 +12,8 @@ loop-column-init c r h =
 
 pub loop-column-preserved : goal.loop-column-preserved
 loop-column-preserved c r h =
-    c.step.ensures r (omega arith)
+    c.add_column.ensures r (omega arith)
+    ∙ ap (add (get_or c.args.self.now.flat.items (r * c.args.self.now.need.count + (c.loop-column.column - 1)) 0)) (c.scale.ensures r (omega arith))
     ∙ before_column c.args.self.now.need.count c.args.self.now.flat.items r (c.loop-column.column - 1) c.loop-column.column c.args.x _ (omega arith) (omega arith)
     (row_inside c.args.self.now.need.count (length c.args.piece.now) c.args.self.now.flat.items r h (omega arith)) (c.loop-column.invariant r h)
 

@@ -1,8 +1,8 @@
 -- What the tests and the chain found, in the words of the definitions.
-use Rattle.std.proofs.Common.{◌≡◌, ℕ, ◌+◌, ◌-◌, ◌*◌, ◌≤◌, true, false, List, length, take, drop, sym, ap, ◌∙◌, subst, arith, rules}
+use Rattle.std.proofs.Common.{◌≡◌, ℕ, ◌+◌, ◌-◌, ◌*◌, ◌≤◌, false, List, length, take, drop, ap, ◌∙◌, subst, arith, rules}
 use borrow.Author.Tests.{tests}
 use Rattle.std.specs.List.{AllByRecursion}
-use Rattle.std.proofs.ByRecursion.{All-get_or, all_from_every}
+use Rattle.std.proofs.ByRecursion.{all_from_every}
 use Rattle.std.proofs.lemmas.Iterator.{YieldsList-from_slice, cases_from_any}
 use Rattle.std.proofs.lemmas.List.{take_rest}
 use Rattle.std.proofs.lemmas.Result.{err_from_is_err_and}
@@ -15,27 +15,6 @@ long_is need n size flat e h is l = (omega arith, l ∙ is ∙ ap (λ k. rows_fo
 
 rest_is : (n : ℕ) (flat : List ℕ) → n ≡ length_in flat → take (length flat - (4 + n)) (drop (4 + n) flat) ≡ drop (4 + length_in flat) flat
 rest_is n flat e = take_rest flat (4 + n) ∙ ap (λ k. drop (4 + k) flat) e
-
-pub returns-then-flat-framed_size : goal.returns-then-flat-framed_size
-returns-then-flat-framed_size c =
-    let e = c.length_in-length.ensures in
-    rw (← c.as_slice-flat.ensures.value) (
-      omega arith,
-      λ h. c.if-flat-framed_size.true (h ∙ ap (λ k. rows_for c.args.self.now.need.count k * c.args.self.now.need.count) (sym e) ∙ sym c.framed_size.ensures.is),
-    )
-
-pub returns-then-any : goal.returns-then-any
-returns-then-any c =
-    let e = c.length_in-length.ensures in
-    let flat : List ℕ = c.as_slice-flat.result.now in
-    let used : ℕ = 4 + c.length_in-length.result in
-    let rest : List ℕ = take (length flat - used) (drop used flat) in
-    let other = cases_from_any _ _ true (λ b. b ≡ 0 → ⊥) IsZero c.if-any.ensures.ran (YieldsList-from_slice rest cc)
-    (λ x q k. search (rules, tests)) (λ x q k. search (rules, tests)) in
-    rw (← c.as_slice-flat.ensures.value) (
-      long_is c.args.self.now.need.count c.length_in-length.result c.framed_size.result flat e (omega arith) c.framed_size.ensures.is c.if-flat-framed_size.false,
-      λ z. other.2 0 (All-get_or IsZero rest other.0 0 other.1 (subst (AllByRecursion IsZero) (sym (rest_is c.length_in-length.result flat e)) z)),
-    )
 
 pub returns-in_err-from_slice : goal.returns-in_err-from_slice
 returns-in_err-from_slice c =
