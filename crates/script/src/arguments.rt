@@ -24,7 +24,7 @@ pub fn nothing(words: &[&[u8]]) -> Result<(), LineError>
     }
 }
 
-// One generic function would give an array, and of what a closure makes of an array the proof of `command` learns nothing: so these are three.
+// Three, and no `numbers::<N>`: that gives an array, and what a closure makes of an array is not known to the proof of `command`.
 pub fn one_number(words: &[&[u8]]) -> Result<u64, LineError>
     ensures { result ≡ one_number (map (λ w. w.now) words.now) }
 {
