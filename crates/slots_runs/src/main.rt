@@ -3,6 +3,7 @@
 
 use slots::{Owner, adler, read, write};
 use std::io;
+use std::ops::Range;
 
 // How long an input may be: that of the longest record but for its sum, and a little more.
 const LONGEST: usize = 65_574;
@@ -73,19 +74,21 @@ fn found_at(slot: &[u8; SLOT], place: usize) -> usize {
         .count()
 }
 
+// How many changes of one byte at these places are found.
+fn found_in(slot: &[u8; SLOT], places: Range<usize>) -> usize {
+    places.fold(
+        0usize,
+        |found, place| found.saturating_add(found_at(slot, place)),
+    )
+}
+
 // Changes every byte of a slot with a record of 24 bytes and 8 bytes behind it, one at a time.
 fn changes(rt: &impl Print) -> io::Result<()> {
     let mut slot = [9u8; SLOT];
     let written = write(&mut slot, OWNER, VERSION, &[5, 7, 0, 255, 9]);
     println!(rt; "written {written}")?;
-    let within = (0..RECORD).fold(
-        0usize,
-        |found, place| found.saturating_add(found_at(&slot, place)),
-    );
-    let behind = (RECORD..SLOT).fold(
-        0usize,
-        |found, place| found.saturating_add(found_at(&slot, place)),
-    );
+    let within = found_in(&slot, 0..RECORD);
+    let behind = found_in(&slot, RECORD..SLOT);
     println!(rt; "found {within} of 6120 changes of the record, {behind} of 2040 behind it")
 }
 
