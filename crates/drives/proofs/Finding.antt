@@ -1,6 +1,6 @@
 -- Searches through the places of an object, from the lowest on.
-use Rattle.std.proofs.Common.{◌≡◌, ℕ, ◌+◌, ◌<◌, ◌≤◌, true, false, cond, ◌||◌, eqb, Bool, is_some, List, [], ◌∷◌, drop, Some, None, Option, sym, refl, ap, ◌∙◌, arith}
-use Rattle.std.specs.Option.{option_map, option_eq}
+use Rattle.std.proofs.Common.{◌≡◌, ℕ, ◌+◌, ◌<◌, ◌≤◌, eqb, is_some, List, [], ◌∷◌, drop, Some, None, Option, refl, ap, ◌∙◌, arith}
+use Rattle.std.specs.Option.{option_eq}
 use Rattle.std.specs.List.{position, list_any}
 use Rattle.std.proofs.lemmas.Bool.Decides.{nat_tests}
 use Rattle.std.proofs.lemmas.List.{drop_more, drop_all}
@@ -22,12 +22,6 @@ turned_same None (Some w) = refl
 turned_same (Some v) None = refl
 turned_same (Some v) (Some w) = grind (arith, nat_tests)
 
--- A place is found where the first has the same or a later one does.
-pub seen_head : (b : Bool) (r : Option ℕ) → is_some (cond b (Some 0) (option_map (λ i. i + 1) r)) ≡ (b || is_some r)
-seen_head true r = refl
-seen_head false None = refl
-seen_head false (Some k) = refl
-
 -- The first place that has the same, and whether there is one.
 pub index_position : (x : Option ℕ) (ys : List (Option ℕ)) → position (option_eq eqb x) ys ≡ index_of x ys
 index_position x [] = refl
@@ -35,7 +29,7 @@ index_position x (y ∷ ys) = let e = equal_same x y in let i = index_position x
 
 pub index_any : (x : Option ℕ) (ys : List (Option ℕ)) → list_any (λ y. option_eq eqb y x) ys ≡ is_some (index_of x ys)
 index_any x [] = refl
-index_any x (y ∷ ys) = ap (λ b. b || list_any (λ z. option_eq eqb z x) ys) (turned_same x y) ∙ ap (λ b. same x y || b) (index_any x ys) ∙ sym (seen_head (same x y) (index_of x ys))
+index_any x (y ∷ ys) = let turned = turned_same x y in let later = index_any x ys in grind (arith, nat_tests)
 
 -- The piece of a version: what is left from a place on begins with that place's reading, and past the places there is none.
 pub find_step : (bytes : List ℕ) (o d v k : ℕ) → k < 4 → find v (drop k (readings bytes o d)) ≡ find v (read_slot o d (slot_at bytes o k) ∷ drop (k + 1) (readings bytes o d))

@@ -1,9 +1,10 @@
 -- What is read of a drive after a writing and after a taking away.
-use Rattle.std.proofs.Common.{◌≡◌, ℕ, ◌+◌, ◌<◌, true, cond, List, map, length, get_or, drop, set, Some, None, Ok, Err, Option, Result, sym, refl, ap, ◌∙◌, inl, inr, arith}
+use Rattle.std.proofs.Common.{◌≡◌, ℕ, ◌+◌, ◌<◌, true, cond, List, map, length, get_or, drop, set, Some, None, Ok, Option, sym, refl, ap, ◌∙◌, inl, inr, arith}
 use Rattle.std.proofs.lemmas.List.{ext_get_or, get_or-map, get_or-set_same, get_or-set_other, length-map, length-set}
-use Rattle.std.proofs.lemmas.Bool.{cases_Bool, cases_eq, cond-true, cond-false}
+use Rattle.std.proofs.lemmas.Bool.Decides.{nat_tests}
+use Rattle.std.proofs.lemmas.Bool.{cases_eq}
 use Rattle.slots.specs.Layout.{around}
-use Rattle.slots.specs.Slot.{Slot, empty, holds, read_slot, has_room, written, cleared}
+use Rattle.slots.specs.Slot.{Slot, empty, holds, read_slot, has_room, written}
 use Rattle.slots.proofs.Standing.{reads_written, cleared_reads_empty}
 use Rattle.slots.proofs.Writing.{room_parts, written_there, length_written}
 use Rattle.drives.specs.Place.{slot_at, with_slot, readings}
@@ -11,8 +12,6 @@ use Rattle.drives.specs.Rule.{names_slot}
 use Rattle.drives.specs.Steps.{answer_at, written_at, after_write, taken_below}
 use Rattle.drives.specs.View.{place_for}
 use Rattle.drives.specs.Laws.{WriteReads, TakingReads, OtherObjects, Rereading}
-use Rattle.drives.specs.declared.piece.Unwritten.{Unwritten}
-use Rattle.drives.specs.declared.piece.Unwritten.TheVariants.{NoRoom}
 use Rattle.drives.specs.declared.rule.Rule.{Rule}
 use Rattle.drives.proofs.Counting.{length_readings, get_or_readings}
 use Rattle.drives.proofs.Placing.{place_below}
@@ -25,18 +24,12 @@ record There (bytes p : List ℕ) (o d v k : ℕ) : Type 0 where
   room : has_room (slot_at bytes o k) p ≡ true
 
 there_by : (bytes p : List ℕ) (o d v k : ℕ) (r : Option ℕ) → r ≡ place_for v (readings bytes o d) → answer_at bytes o p r ≡ Ok k → There bytes p o d v k
-there_by bytes p o d v k None e a = let z : ◌≡◌ {A = ℕ} 0 1 = cc in absurd (omega arith)
-there_by bytes p o d v k (Some j) e a =
-    elim (cases_Bool (has_room (slot_at bytes o j) p)) [
-      | inl t ↦ (let f = cond-true {A = Result ℕ Unwritten} (has_room (slot_at bytes o j) p) (Ok j) (Err NoRoom) t in
-          let same : j ≡ k = cc in record { place = ap Some (sym same) ∙ e; room = ap (λ i. has_room (slot_at bytes o i) p) (sym same) ∙ t })
-      | inr t ↦ (let f = cond-false {A = Result ℕ Unwritten} (has_room (slot_at bytes o j) p) (Ok j) (Err NoRoom) t in let z : ◌≡◌ {A = ℕ} 0 1 = cc in absurd (omega arith))
-    ]
+there_by bytes p o d v k None e a = cc
+there_by bytes p o d v k (Some j) e a = record { place = grind (arith, nat_tests); room = grind (arith, nat_tests) }
 
 -- The drive after it.
 after_there : (bytes p : List ℕ) (o d v k : ℕ) → There bytes p o d v k → after_write bytes o d v p ≡ with_slot bytes o k (written o d v p (slot_at bytes o k))
-after_there bytes p o d v k h =
-    ap (written_at bytes o d v p) (sym h.place) ∙ cond-true (has_room (slot_at bytes o k) p) (with_slot bytes o k (written o d v p (slot_at bytes o k))) bytes h.room
+after_there bytes p o d v k h = grind (arith, nat_tests)
 
 -- What the written slot reads as.
 reads_there : (bytes p : List ℕ) (o d v k : ℕ) → v < 18446744073709551616 → There bytes p o d v k → read_slot o d (written o d v p (slot_at bytes o k)) ≡ holds v p
@@ -65,12 +58,7 @@ write_reads bytes p o d v k small answer =
     ])
 
 reads_cleared : (o d : ℕ) (rule : Rule) (slot : List ℕ) → read_slot o d (cleared_if o d rule slot) ≡ cond (names_slot rule (read_slot o d slot)) empty (read_slot o d slot)
-reads_cleared o d rule slot =
-    let named = names_slot rule (read_slot o d slot) in
-    elim (cases_Bool named) [
-      | inl t ↦ ap (read_slot o d) (cond-true named (cleared o d slot) slot t) ∙ cleared_reads_empty o d slot ∙ sym (cond-true named empty (read_slot o d slot) t)
-      | inr t ↦ ap (read_slot o d) (cond-false named (cleared o d slot) slot t) ∙ sym (cond-false named empty (read_slot o d slot) t)
-    ]
+reads_cleared o d rule slot = let gone = cleared_reads_empty o d slot in grind (arith, nat_tests)
 
 pub taking_reads : TakingReads
 taking_reads bytes o d rule =
@@ -85,13 +73,8 @@ taking_reads bytes o d rule =
 write_others : (bytes p : List ℕ) (o d v o' k' : ℕ) (r : Option ℕ) → r ≡ place_for v (readings bytes o d) → (o ≡ o' → ⊥) → k' < 4 → slot_at (written_at bytes o d v p r) o' k' ≡ slot_at bytes o' k'
 write_others bytes p o d v o' k' None e apart h = refl
 write_others bytes p o d v o' k' (Some k) e apart h =
-    let room = has_room (slot_at bytes o k) p in
     let new = written o d v p (slot_at bytes o k) in
-    elim (cases_Bool room) [
-      | inl t ↦ ap (λ l. slot_at l o' k') (cond-true room (with_slot bytes o k new) bytes t)
-          ∙ others_stand bytes new o k o' k' (place_below v k bytes o d e) h (length_written o d v p (slot_at bytes o k)) (λ f. apart f.0)
-      | inr t ↦ ap (λ l. slot_at l o' k') (cond-false room (with_slot bytes o k new) bytes t)
-    ]
+    let others = others_stand bytes new o k o' k' (place_below v k bytes o d e) h (length_written o d v p (slot_at bytes o k)) (λ f. apart f.0) in grind (arith, nat_tests)
 
 pub other_objects : OtherObjects
 other_objects bytes p o d v o' k' rule apart h =

@@ -2,11 +2,12 @@
 use Rattle.std.proofs.Common.{◌≡◌, ℕ, zero, suc, ◌+◌, ◌<◌, ◌≤◌, true, false, cond, List, length, get_or, take, drop, replicate, count_by, sym, refl, ap, ◌∙◌, inl, inr, arith}
 use Rattle.std.proofs.lemmas.List.{length-append, length-replicate, length-drop}
 use Rattle.std.proofs.lemmas.List.Sums.{count_by_more_yes, count_by_more_no}
-use Rattle.std.proofs.lemmas.Bool.{cases_Bool, cases_eq, cond-true, cond-false}
+use Rattle.std.proofs.lemmas.Bool.Decides.{nat_tests}
+use Rattle.std.proofs.lemmas.Bool.{cases_eq}
 use Rattle.slots.specs.Layout.{around}
 use Rattle.slots.specs.Slot.{Slot, empty, holds, read_slot, cleared}
 use Rattle.slots.proofs.Clearing.{cleared_none, cleared_held, held_within}
-use Rattle.drives.specs.Place.{slot_at, with_slot, readings}
+use Rattle.drives.specs.Place.{slot_at, readings}
 use Rattle.drives.specs.Rule.{names_slot}
 use Rattle.drives.specs.Steps.{taken_at, taken_below}
 use Rattle.drives.specs.declared.rule.Rule.{Rule}
@@ -27,12 +28,8 @@ length_cleared o d bytes = length_cleared_by o d bytes (read_slot o d bytes) ref
 -- Taking away at one place leaves all other slots.
 pub taken_apart : (bytes : List ℕ) (o d i o' k : ℕ) (rule : Rule) → i < 4 → k < 4 → ((o ≡ o') × (i ≡ k) → ⊥) → slot_at (taken_at bytes o d i rule) o' k ≡ slot_at bytes o' k
 taken_apart bytes o d i o' k rule h h' apart =
-    let named = names_slot rule (read_slot o d (slot_at bytes o i)) in
-    let new = with_slot bytes o i (cleared o d (slot_at bytes o i)) in
-    elim (cases_Bool named) [
-      | inl t ↦ ap (λ l. slot_at l o' k) (cond-true named new bytes t) ∙ others_stand bytes (cleared o d (slot_at bytes o i)) o i o' k h h' (length_cleared o d (slot_at bytes o i)) apart
-      | inr t ↦ ap (λ l. slot_at l o' k) (cond-false named new bytes t)
-    ]
+    let slot = slot_at bytes o i in
+    let others = others_stand bytes (cleared o d slot) o i o' k h h' (length_cleared o d slot) apart in grind (arith, nat_tests)
 
 pub below_apart : (bytes : List ℕ) (o d i k : ℕ) (rule : Rule) → i ≤ k → k < 4 → slot_at (taken_below i bytes o d rule) o k ≡ slot_at bytes o k
 unfolding taken_below
@@ -49,12 +46,16 @@ named_still bytes o d i rule h = ap (λ s. names_slot rule (read_slot o d s)) (b
 pub count_yes : (bytes : List ℕ) (o d i n : ℕ) (rule : Rule) → i < 4 → true ≡ names_slot rule (read_slot o d (slot_at (taken_below i bytes o d rule) o i)) →
     n ≡ count_by (names_slot rule) (take i (readings bytes o d)) → n + 1 ≡ count_by (names_slot rule) (take (i + 1) (readings bytes o d))
 count_yes bytes o d i n rule h t e =
-    ap (λ m. m + 1) e ∙ sym (count_by_more_yes (names_slot rule) (readings bytes o d) i empty (omega (arith, length_readings bytes o d)) (sym (t ∙ named_still bytes o d i rule h)))
+    let long = length_readings bytes o d in
+    let still = named_still bytes o d i rule h in
+    let more = count_by_more_yes (names_slot rule) (readings bytes o d) i empty in grind arith
 
 pub count_no : (bytes : List ℕ) (o d i n : ℕ) (rule : Rule) → i < 4 → false ≡ names_slot rule (read_slot o d (slot_at (taken_below i bytes o d rule) o i)) →
     n ≡ count_by (names_slot rule) (take i (readings bytes o d)) → n ≡ count_by (names_slot rule) (take (i + 1) (readings bytes o d))
 count_no bytes o d i n rule h t e =
-    e ∙ sym (count_by_more_no (names_slot rule) (readings bytes o d) i empty (omega (arith, length_readings bytes o d)) (sym (t ∙ named_still bytes o d i rule h)))
+    let long = length_readings bytes o d in
+    let still = named_still bytes o d i rule h in
+    let more = count_by_more_no (names_slot rule) (readings bytes o d) i empty in grind arith
 
 -- A slot once what a rule names in it was taken away.
 abbrev pub cleared_if : (o d : ℕ) → Rule → List ℕ → List ℕ
@@ -63,12 +64,7 @@ cleared_if o d rule slot = cond (names_slot rule (read_slot o d slot)) (cleared 
 taken_here : (bytes : List ℕ) (o d i : ℕ) (rule : Rule) → slot_at (taken_at bytes o d i rule) o i ≡ cleared_if o d rule (slot_at bytes o i)
 taken_here bytes o d i rule =
     let slot = slot_at bytes o i in
-    let named = names_slot rule (read_slot o d slot) in
-    let new = with_slot bytes o i (cleared o d slot) in
-    elim (cases_Bool named) [
-      | inl t ↦ ap (λ l. slot_at l o i) (cond-true named new bytes t) ∙ slot_stands bytes (cleared o d slot) o i (length_cleared o d slot) ∙ sym (cond-true named (cleared o d slot) slot t)
-      | inr t ↦ ap (λ l. slot_at l o i) (cond-false named new bytes t) ∙ sym (cond-false named (cleared o d slot) slot t)
-    ]
+    let stands = slot_stands bytes (cleared o d slot) o i (length_cleared o d slot) in grind (arith, nat_tests)
 
 pub below_done : (n : ℕ) (bytes : List ℕ) (o d i : ℕ) (rule : Rule) → i < n → n ≤ 4 → slot_at (taken_below n bytes o d rule) o i ≡ cleared_if o d rule (slot_at bytes o i)
 unfolding taken_below

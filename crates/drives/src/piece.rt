@@ -25,10 +25,10 @@ pub fn find_piece(drive: &[u8], owner: Owner, version: u64) -> Option<&[u8]>
     ensures { option_map (λ x. x.now) result ≡ find version (readings drive.now owner.object owner.drive) }
 {
     for place in 0..PLACES {
-        if let Some(held) = read(slot_of(drive, owner.object, place), owner) {
-            if held.version == version {
-                return Some(held.piece);
-            }
+        if let Some(held) = read(slot_of(drive, owner.object, place), owner)
+            && held.version == version
+        {
+            return Some(held.piece);
         }
     }
     None

@@ -48,7 +48,7 @@ impl Drives {
         drive < self.count && self.present[usize::from(drive)]
     }
 
-    // Whether the drive is in from now on. False, and nothing changes, where there is no such drive.
+    // The drive is in from now on, or out, as `is_in` says. False, and nothing changes, where there is no such drive.
     fn set(&mut self, drive: u8, is_in: bool) -> bool
         ensures answer { result ≡ nat_lt drive self.old.count }
         ensures count { self.new.count ≡ self.old.count }

@@ -24,5 +24,4 @@ adler_lt xs = sums_lt 1 0 xs (omega arith) (omega arith)
 -- One byte more of what is left of a block, whatever comes after the block.
 pub onward_more : (a b i : ℕ) (xs rest : List ℕ) → i < length xs →
     sums (a % 65521) (b % 65521) (drop i xs ++ rest) ≡ sums ((a + get_or xs i 0) % 65521) ((b + (a + get_or xs i 0)) % 65521) (drop (i + 1) xs ++ rest)
-onward_more a b i xs rest h =
-    ap (λ ys. sums (a % 65521) (b % 65521) (ys ++ rest)) (drop_more xs i 0 h) ∙ sums_more a b (get_or xs i 0) (drop (i + 1) xs ++ rest)
+onward_more a b i xs rest h = let next = drop_more xs i 0 h in let more = sums_more a b (get_or xs i 0) (drop (i + 1) xs ++ rest) in grind arith

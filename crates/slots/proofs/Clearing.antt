@@ -1,5 +1,6 @@
 -- A slot whose piece was taken away.
 use Rattle.std.proofs.Common.{◌≡◌, ℕ, ◌+◌, ◌≤◌, List, ◌++◌, length, take, drop, replicate, sym, ap, ◌∙◌, arith}
+use Rattle.std.proofs.lemmas.Grind.{common_steps}
 use Rattle.std.proofs.lemmas.List.{length-drop, length-take-le}
 use Rattle.slots.specs.Layout.{around}
 use Rattle.slots.specs.Slot.{empty, holds, read_slot, record_length, cleared, length_in}
@@ -25,7 +26,4 @@ cleared_held o d v p bytes e = ap (λ r. replicate (record_length r) 0 ++ drop (
 -- The same as the code fills it: `n` bytes from the front on.
 pub cleared_filled : (o d v n : ℕ) (p bytes filled : List ℕ) → holds v p ≡ read_slot o d bytes → n ≡ around + length p → filled ≡ replicate (length (take n bytes)) 0 →
     filled ++ drop n bytes ≡ cleared o d bytes
-cleared_filled o d v n p bytes filled e long f =
-    let within = held_within o d v p bytes e in
-    let k : length (take n bytes) ≡ n = length-take-le n bytes (omega arith) in
-    ap (λ l. l ++ drop n bytes) (f ∙ ap (λ i. replicate i 0) k) ∙ ap (λ i. replicate i 0 ++ drop i bytes) long ∙ cleared_held o d v p bytes e
+cleared_filled o d v n p bytes filled e long f = let within = held_within o d v p bytes e in let held = cleared_held o d v p bytes e in grind (arith, common_steps)

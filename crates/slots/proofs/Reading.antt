@@ -1,7 +1,7 @@
 -- What decides that a slot's bytes read as nothing, or as a piece.
-use Rattle.std.proofs.Common.{◌≡◌, ℕ, ◌+◌, ◌*◌, ◌<◌, ◌≤◌, true, List, length, get_or, take, drop, sym, ap, ◌∙◌, inl, inr, arith}
+use Rattle.std.proofs.Common.{◌≡◌, ℕ, ◌+◌, ◌*◌, ◌<◌, ◌≤◌, true, List, length, get_or, take, drop, ap, ◌∙◌, inl, inr, arith}
 use Rattle.std.proofs.lemmas.List.{get_or-take, get_or-drop}
-use Rattle.std.proofs.lemmas.Bool.{cond-true, cond-false, cases_Bool, both_ways}
+use Rattle.std.proofs.lemmas.Bool.{cases_Bool, both_ways}
 use Rattle.std.proofs.lemmas.Bool.Decides.{nat_tests}
 use Rattle.slots.specs.Adler.{adler}
 use Rattle.slots.specs.Layout.{slot_size, around}
@@ -22,23 +22,17 @@ fits_true o d bytes h = grind (arith, nat_tests)
 
 pub fits_since : (o d : ℕ) (bytes : List ℕ) → fits o d bytes ≡ true → Fits o d bytes
 unfolding fits
-fits_since o d bytes h =
-    record { whole = grind (arith, nat_tests); room = grind (arith, nat_tests); kind = grind (arith, nat_tests); object = grind (arith, nat_tests); drive = grind (arith, nat_tests); sum = grind (arith, nat_tests) }
+fits_since o d bytes h = grind (arith, nat_tests)
 
 -- Bytes that don't fit read as nothing.
 pub misfit : (o d : ℕ) (bytes : List ℕ) → (Fits o d bytes → ⊥) → empty ≡ read_slot o d bytes
 unfolding read_slot
-misfit o d bytes never =
-    elim (cases_Bool (fits o d bytes)) [
-      | inl t ↦ absurd (never (fits_since o d bytes t))
-      | inr f ↦ sym (cond-false (fits o d bytes) (holds (version_in bytes) (take (length_in bytes) (drop 15 bytes))) empty f)
-    ]
+misfit o d bytes never = let fitting = fits_since o d bytes in grind (arith, nat_tests)
 
 -- And bytes that fit as the piece that they name.
 pub fit : (o d : ℕ) (bytes : List ℕ) → Fits o d bytes → holds (version_in bytes) (take (length_in bytes) (drop 15 bytes)) ≡ read_slot o d bytes
 unfolding read_slot
-fit o d bytes h =
-    sym (cond-true (fits o d bytes) (holds (version_in bytes) (take (length_in bytes) (drop 15 bytes))) empty (fits_true o d bytes h))
+fit o d bytes h = let fitting = fits_true o d bytes h in grind (arith, nat_tests)
 
 -- What reads as a piece fits, and is the piece that it names.
 pub fits_from : (o d v : ℕ) (p bytes : List ℕ) → read_slot o d bytes ≡ holds v p → Fits o d bytes × (v ≡ version_in bytes) × (p ≡ take (length_in bytes) (drop 15 bytes))
@@ -46,7 +40,7 @@ fits_from o d v p bytes e =
     elim (cases_Bool (fits o d bytes)) [
       | inl t ↦ (let f = fits_since o d bytes t in let g = fit o d bytes f in (f, (cc), (cc)))
       | inr f ↦ (let g : empty ≡ read_slot o d bytes = misfit o d bytes (λ h. both_ways (fits o d bytes) f (fits_true o d bytes h)) in
-          let z : ◌≡◌ {A = ℕ} 0 1 = cc in absurd (omega arith))
+          cc)
     ]
 
 -- The number that the four bytes behind the first `n` spell is the record's sum.

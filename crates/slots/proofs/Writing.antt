@@ -1,7 +1,8 @@
 -- A record written front to back, field by field.
-use Rattle.std.proofs.Common.{◌≡◌, ℕ, ◌+◌, ◌≤◌, true, false, leb, List, [], ◌++◌, length, take, drop, Some, None, sym, refl, ap, ◌∙◌, inl, inr, arith}
+use Rattle.std.proofs.Common.{◌≡◌, ℕ, ◌+◌, ◌≤◌, true, false, List, [], ◌++◌, length, take, drop, Some, sym, refl, ap, ◌∙◌, arith}
 use Rattle.std.proofs.lemmas.List.{append_assoc, take_at, drop_at, drop-drop, length-append, length-drop}
-use Rattle.std.proofs.lemmas.Bool.{leb-true, le-leb, cond-true, cond-false, and_from, and_parts, cases_Bool}
+use Rattle.std.proofs.lemmas.Bool.Decides.{nat_tests}
+use Rattle.std.proofs.lemmas.Bool.{cond-true}
 use Rattle.slots.specs.Adler.{adler}
 use Rattle.slots.specs.Layout.{piece_room, around, bytes_of, header_of, body_of, record_of, record_room, put_at}
 use Rattle.slots.specs.Slot.{has_room, written}
@@ -15,20 +16,16 @@ front_put s xs ys at e =
 
 -- What `record_len` answers.
 pub room_some : (n end : ℕ) → Some end ≡ record_room n → (n ≤ piece_room) × (end ≡ around + n)
-room_some n end e =
-    elim (cases_Bool (leb n piece_room)) [
-      | inl t ↦ (let f = cond-true (leb n piece_room) (Some (around + n)) None t in (leb-true n piece_room t, (cc)))
-      | inr t ↦ (let f = cond-false (leb n piece_room) (Some (around + n)) None t in let z : ◌≡◌ {A = ℕ} 0 1 = cc in absurd (omega arith))
-    ]
+room_some n end e = grind (arith, nat_tests)
 
 -- Whether there is room.
 pub has_room_lem : (bytes p : List ℕ) → length p ≤ piece_room → around + length p ≤ length bytes → true ≡ has_room bytes p
-has_room_lem bytes p a b = sym (and_from (leb (length p) piece_room) (leb (around + length p) (length bytes)) (le-leb (length p) piece_room a) (le-leb (around + length p) (length bytes) b))
+has_room_lem bytes p a b = grind (arith, nat_tests)
 
 -- Without room nothing is written.
 pub written_none : (o d v : ℕ) (p bytes : List ℕ) → false ≡ has_room bytes p → bytes ≡ written o d v p bytes
 unfolding written
-written_none o d v p bytes e = sym (cond-false (has_room bytes p) (record_of o d v p ++ drop (around + length p) bytes) bytes (sym e))
+written_none o d v p bytes e = grind (arith, nat_tests)
 
 -- The header, the piece and the sum put one behind the other are the record, before what lay behind it. `n` is the sum's place.
 pub written_put : (o d v n sum : ℕ) (p s s₁ s₂ s₃ : List ℕ) → true ≡ has_room s p → n ≡ 15 + length p →
@@ -55,19 +52,16 @@ length_record o d v p =
     length-append (body_of o d v p) (bytes_of 4 (adler (body_of o d v p))) ∙ omega arith
 
 pub room_parts : (bytes p : List ℕ) → has_room bytes p ≡ true → (length p ≤ piece_room) × (around + length p ≤ length bytes)
-room_parts bytes p t =
-    let both = and_parts (leb (length p) piece_room) (leb (around + length p) (length bytes)) t in
-    (leb-true (length p) piece_room both.0, leb-true (around + length p) (length bytes) both.1)
+room_parts bytes p t = grind (arith, nat_tests)
 
 pub written_there : (o d v : ℕ) (p bytes : List ℕ) → has_room bytes p ≡ true → written o d v p bytes ≡ record_of o d v p ++ drop (around + length p) bytes
 unfolding written
-written_there o d v p bytes t = cond-true (has_room bytes p) (record_of o d v p ++ drop (around + length p) bytes) bytes t
+written_there o d v p bytes t = grind (arith, nat_tests)
 
 pub length_written : (o d v : ℕ) (p bytes : List ℕ) → length (written o d v p bytes) ≡ length bytes
 length_written o d v p bytes =
-    let n = around + length p in
-    elim (cases_Bool (has_room bytes p)) [
-      | inl t ↦ (let room = room_parts bytes p t in
-          ap length (written_there o d v p bytes t) ∙ length-append (record_of o d v p) (drop n bytes) ∙ omega (arith, length_record o d v p, length-drop n bytes))
-      | inr t ↦ ap length (sym (written_none o d v p bytes (sym t)))
-    ]
+    let record_long = length_record o d v p in
+    let joined = length-append (record_of o d v p) (drop (around + length p) bytes) in
+    let rest = length-drop (around + length p) bytes in
+    let there = written_there o d v p bytes in
+    let none = written_none o d v p bytes in grind (arith, nat_tests)

@@ -120,25 +120,10 @@ pub fn read(slot: &[u8], owner: Owner) -> Option<Held<'_>>
 fn header_bytes(owner: Owner, version: u64, len: u32) -> [u8; HEADER]
     ensures { result ≡ header_of owner.object owner.drive version len }
 {
-    let mut bytes = [
-        KIND,
-        owner.object,
-        owner.drive,
-        0,
-        0,
-        0,
-        0,
-        0,
-        0,
-        0,
-        0,
-        0,
-        0,
-        0,
-        0,
-    ];
+    let mut bytes = [0; HEADER];
+    bytes[..3].copy_from_slice(&[KIND, owner.object, owner.drive]);
     bytes[3..11].copy_from_slice(&version.to_be_bytes());
-    bytes[11..15].copy_from_slice(&len.to_be_bytes());
+    bytes[11..].copy_from_slice(&len.to_be_bytes());
     bytes
 }
 

@@ -3,6 +3,7 @@
 
 use slots::{Owner, adler, read, write};
 use std::io;
+use std::ops::Range;
 
 // How long an input may be: that of the longest record but for its sum, and a little more.
 const LONGEST: usize = 65_574;
@@ -15,14 +16,18 @@ const OWNER: Owner = Owner {
 
 const VERSION: u64 = 1025;
 
+// How many bytes that slot has, and how many of them are the record's.
+const SLOT: usize = 32;
+
+const RECORD: usize = 24;
+
 // The next number of a generator that the script has too.
 fn next(seed: u32) -> u32 {
     seed.wrapping_mul(1_664_525).wrapping_add(1_013_904_223)
 }
 
 // Fills bytes from the generator, and hands its next number on.
-fn fill(bytes: &mut [u8], seed: u32) -> u32 {
-    let mut seed = seed;
+fn fill(bytes: &mut [u8], mut seed: u32) -> u32 {
     for b in bytes.iter_mut() {
         seed = next(seed);
         *b = (seed >> 24) as u8;
@@ -34,8 +39,7 @@ fn fill(bytes: &mut [u8], seed: u32) -> u32 {
 fn sums(rt: &impl Print, bytes: &mut [u8], from: usize, to: usize) -> io::Result<()> {
     let mut seed = 1;
     for len in from..to {
-        if len <= bytes.len() {
-            let input = &mut bytes[0..len];
+        if let Some(input) = bytes.get_mut(..len) {
             seed = fill(input, seed);
             let sum = adler(input);
             println!(rt; "{sum}")?;
@@ -54,37 +58,37 @@ fn all_sums(rt: &(impl Print + Alloc)) -> io::Result<()> {
     sums(rt, bytes, 2043, 2053)
 }
 
-// How many of the 255 other values at a place leave a slot that reads as nothing. The slot is then as it was.
-fn found_at(slot: &mut [u8], place: usize) -> u32 {
-    let mut found: u32 = 0;
-    if place < slot.len() {
-        let old = slot[place];
-        for value in 0..=255u8 {
-            slot[place] = value;
-            if value != old && read(slot, OWNER).is_none() {
-                found = found.saturating_add(1);
-            }
-        }
-        slot[place] = old;
+// Whether it is found that a place of a slot was changed to a value: the slot is another then, and reads as nothing.
+fn is_found(slot: &[u8; SLOT], place: usize, value: u8) -> bool {
+    let mut changed = *slot;
+    if let Some(byte) = changed.get_mut(place) {
+        *byte = value;
     }
-    found
+    changed != *slot && read(&changed, OWNER).is_none()
+}
+
+// How many of the 255 other values at a place are found.
+fn found_at(slot: &[u8; SLOT], place: usize) -> usize {
+    (0..=255u8)
+        .filter(|value| is_found(slot, place, *value))
+        .count()
+}
+
+// How many changes of one byte at these places are found.
+fn found_in(slot: &[u8; SLOT], places: Range<usize>) -> usize {
+    places.fold(
+        0usize,
+        |found, place| found.saturating_add(found_at(slot, place)),
+    )
 }
 
 // Changes every byte of a slot with a record of 24 bytes and 8 bytes behind it, one at a time.
 fn changes(rt: &impl Print) -> io::Result<()> {
-    let mut slot = [9u8; 32];
+    let mut slot = [9u8; SLOT];
     let written = write(&mut slot, OWNER, VERSION, &[5, 7, 0, 255, 9]);
     println!(rt; "written {written}")?;
-    let mut within: u32 = 0;
-    let mut behind: u32 = 0;
-    for place in 0..32usize {
-        let found = found_at(&mut slot, place);
-        if place < 24 {
-            within = within.saturating_add(found);
-        } else {
-            behind = behind.saturating_add(found);
-        }
-    }
+    let within = found_in(&slot, 0..RECORD);
+    let behind = found_in(&slot, RECORD..SLOT);
     println!(rt; "found {within} of 6120 changes of the record, {behind} of 2040 behind it")
 }
 

@@ -9,5 +9,5 @@ pub returns : goal.returns
 returns c =
     let made = c.from_fn.ensures.items in
     readings_filled c.args.drive.now c.args.owner.object c.args.owner.drive c.from_fn.result made.long
-    (made_each _ (λ k. version_of (read_slot c.args.owner.object c.args.owner.drive (slot_at c.args.drive.now c.args.owner.object k))) _ None _ 4
-    (λ k y q h e. search (rules, tests)) made)
+    (made_each (λ k. version_of (read_slot c.args.owner.object c.args.owner.drive (slot_at c.args.drive.now c.args.owner.object k))) None 4
+    (λ k y q h e. (search (rules, tests), search (rules, tests))) made)
