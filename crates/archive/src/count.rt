@@ -71,7 +71,7 @@ impl Count {
         let mut line = format!(in heap; "weak {weak}:")?;
         for drive in 0..strong.count() {
             if !strong.is_in(drive) {
-                line.push_str(format!(in heap; " {drive}")?.as_str())?;
+                write!(line, " {drive}")?;
             }
         }
         Ok(line)

@@ -4,7 +4,7 @@ ghost use Rattle.archive.specs.declared.fault.Fault.TheVariants.{NoMemory};
 ghost use Rattle.archive.specs.declared.fault.Failure.TheVariants.{Refused, Outside};
 
 use keeper::refusal::Refusal;
-use std::alloc::AllocError;
+use std::alloc::{AllocError, AllocFailed};
 use std::fmt;
 
 // What can go wrong outside the keeper.
@@ -41,6 +41,14 @@ impl From<AllocError> for Fault {
     ghost from_gives = { λ _ r. r ≡ NoMemory };
 
     fn from(_e: AllocError) -> Fault {
+        Fault::NoMemory
+    }
+}
+
+impl<T: Drop> From<AllocFailed<T>> for Fault {
+    ghost from_gives = { λ _ r. r ≡ NoMemory };
+
+    fn from(_e: AllocFailed<T>) -> Fault {
         Fault::NoMemory
     }
 }

@@ -6,11 +6,12 @@ use keeper::object::Entry;
 use script::StopAt;
 use slots::Owner;
 use std::alloc::{AllocError, Global};
+use std::array;
 
-// A drive: its slots by object and place. A slot that was never written takes no memory.
+// A drive: the places of each object. A slot that was never written takes no memory.
 #[derive(Drop)]
 pub struct Drive {
-    slots: Vec<Vec<u8>>,
+    objects: Vec<[Vec<u8>; PLACES]>,
 }
 
 #[derive(Drop)]
@@ -25,11 +26,11 @@ pub struct Memory {
 
 impl Drive {
     fn empty(heap: Global) -> Result<Drive, AllocError> {
-        let mut slots = Vec::with_capacity(heap, OBJECTS * PLACES)?;
-        for _ in 0..OBJECTS * PLACES {
-            slots.push(Vec::new(heap))?;
+        let mut objects = Vec::with_capacity(heap, OBJECTS)?;
+        for _ in 0..OBJECTS {
+            objects.push(array::from_fn(|_| Vec::new(heap)))?;
         }
-        Ok(Drive { slots })
+        Ok(Drive { objects })
     }
 }
 
@@ -50,50 +51,54 @@ impl Memory {
 
     // The keeper's file, if it was ever written.
     pub fn file(&self) -> Option<&[u8]> {
-        match &self.file {
-            Some(bytes) => Some(bytes.as_slice()),
-            None => None,
-        }
+        Some(self.file.as_ref()?.as_slice())
     }
 
-    fn slot(&mut self, owner: Owner, place: u8) -> Option<&mut Vec<u8>> {
+    // The places of an object on a drive; none where there is no such drive.
+    fn places(&mut self, owner: Owner) -> Option<&mut [Vec<u8>; PLACES]> {
         self.drives
             .get_mut(usize::from(owner.drive))?
-            .slots
-            .get_mut(usize::from(owner.object) * PLACES + usize::from(place))
+            .objects
+            .get_mut(usize::from(owner.object))
+    }
+
+    fn slot(&mut self, owner: Owner, place: u8) -> Result<&mut Vec<u8>, Fault> {
+        self.places(owner)
+            .and_then(|places| places.get_mut(usize::from(place)))
+            .ok_or(Fault::DriveFailed(owner.drive))
     }
 
     // The drive has nothing any more.
-    pub fn wipe(&mut self, heap: Global, drive: u8) -> Result<(), AllocError> {
+    pub fn wipe(&mut self, drive: u8) -> Result<(), AllocError> {
         if let Some(found) = self.drives.get_mut(usize::from(drive)) {
-            *found = Drive::empty(heap)?;
+            *found = Drive::empty(self.heap)?;
         }
         Ok(())
     }
 
     // Turns a bit of the piece of a version; false where there is no such piece.
     pub fn spoil(&mut self, owner: Owner, version: u64) -> bool {
-        for place in 0..PLACES as u8 {
-            if let Some(slot) = self.slot(owner, place)
-                && spoil(slot.as_mut_slice(), owner, version)
-            {
-                return true;
-            }
+        match self.places(owner) {
+            Some(places) => places
+                .iter_mut()
+                .any(|slot| spoil(slot.as_mut_slice(), owner, version)),
+            None => false,
         }
-        false
     }
 
-    // The versions that a drive has of an object, in order.
-    pub fn versions(&mut self, heap: Global, owner: Owner) -> Result<Vec<u64>, AllocError> {
-        let mut versions = Vec::new(heap);
-        for place in 0..PLACES as u8 {
-            if let Some(slot) = self.slot(owner, place)
-                && let Some(version) = version_at(slot.as_slice(), owner)
-            {
+    // The versions that a drive has of an object, in order, each once.
+    pub fn versions(&mut self, owner: Owner) -> Result<Vec<u64>, AllocError> {
+        let mut versions = Vec::new(self.heap);
+        let Some(places) = self.places(owner) else {
+            return Ok(versions);
+        };
+        for slot in places.iter() {
+            if let Some(version) = version_at(slot.as_slice(), owner) {
                 versions.push(version)?;
             }
         }
         versions.sort_unstable();
+        versions.dedup();
         Ok(versions)
     }
 
@@ -120,11 +125,10 @@ impl Disks for Memory {
         owner: Owner,
         into: &mut Vec<Entry>,
     ) -> Result<(), Fault> {
-        for place in 0..PLACES as u8 {
-            if let Some(slot) = self.slot(owner, place)
-                && let Some(entry) = entry_at(heap, slot.as_slice(), owner, place)?
-            {
-                into.push(entry).map_err(AllocError::from)?;
+        let places = self.places(owner).ok_or(Fault::DriveFailed(owner.drive))?;
+        for (place, slot) in (0..).zip(places.iter()) {
+            if let Some(entry) = entry_at(heap, slot.as_slice(), owner, place)? {
+                into.push(entry)?;
             }
         }
         Ok(())
@@ -132,27 +136,23 @@ impl Disks for Memory {
 
     fn write(&mut self, owner: Owner, place: u8, bytes: &[u8]) -> Result<(), Fault> {
         let cut = self.is_cut();
-        let slot = self
-            .slot(owner, place)
-            .ok_or(Fault::DriveFailed(owner.drive))?;
+        let slot = self.slot(owner, place)?;
         write_over(slot, bytes, cut)?;
         outcome(cut)
     }
 
     fn clear(&mut self, owner: Owner, place: u8) -> Result<(), Fault> {
         let cut = self.is_cut();
-        let slot = self
-            .slot(owner, place)
-            .ok_or(Fault::DriveFailed(owner.drive))?;
+        let slot = self.slot(owner, place)?;
         clear_over(slot.as_mut_slice(), owner, cut);
         outcome(cut)
     }
 
     fn replace_file(&mut self, bytes: &[u8]) -> Result<(), Fault> {
-        if let Some(StopAt::FileOld) = self.waiting {
+        if self.waiting == Some(StopAt::FileOld) {
             return Err(Fault::Stopped);
         }
         self.file = Some(Vec::from_slice(self.heap, bytes)?);
-        outcome(matches!(self.waiting, Some(StopAt::FileNew)))
+        outcome(self.waiting == Some(StopAt::FileNew))
     }
 }

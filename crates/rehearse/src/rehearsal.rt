@@ -62,7 +62,7 @@ impl Rehearsal {
     }
 
     fn stop(&mut self, at: StopAt) -> Result<Reply, Fault> {
-        if let StopAt::Now = at {
+        if at == StopAt::Now {
             return Err(Fault::Stopped);
         }
         self.archive.disks.waiting = Some(at);
@@ -73,7 +73,7 @@ impl Rehearsal {
         let Some(drive) = self.archive.keeper.drive_of(drive) else {
             return Ok(Reply::Refused(Refusal::NoSuch));
         };
-        self.archive.disks.wipe(self.archive.heap, drive)?;
+        self.archive.disks.wipe(drive)?;
         Ok(Reply::Done)
     }
 
@@ -99,26 +99,16 @@ impl Rehearsal {
         };
         let mut line = format!(in heap; "drive {drive} {state}:")?;
         for object in 0..=u8::MAX {
-            let versions = self.archive.disks.versions(heap, Owner { object, drive })?;
-            add_versions(heap, &mut line, object, versions.as_slice())?;
+            let versions = self.archive.disks.versions(Owner { object, drive })?;
+            add_versions(&mut line, object, &versions)?;
         }
         Ok(line)
     }
 }
 
-// Adds an object's versions, which are in order, each once.
-fn add_versions(
-    heap: Global,
-    line: &mut String,
-    object: u8,
-    versions: &[u64],
-) -> Result<(), AllocError> {
-    let mut last = None;
+fn add_versions(line: &mut String, object: u8, versions: &[u64]) -> Result<(), AllocError> {
     for version in versions {
-        if last != Some(*version) {
-            write!(line, " {object}:{version}")?;
-        }
-        last = Some(*version);
+        write!(line, " {object}:{version}")?;
     }
     Ok(())
 }

@@ -29,10 +29,8 @@ pub fn write_over(slot: &mut Vec<u8>, bytes: &[u8], cut: bool) -> Result<(), All
 
 // The new bytes come to the even places, and the odd ones keep the old.
 fn mix(slot: &mut [u8], bytes: &[u8]) {
-    for (place, (old, new)) in slot.iter_mut().zip(bytes).enumerate() {
-        if place % 2 == 0 {
-            *old = *new;
-        }
+    for (old, new) in slot.iter_mut().zip(bytes).step_by(2) {
+        *old = *new;
     }
 }
 
