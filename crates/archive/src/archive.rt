@@ -33,16 +33,14 @@ impl<D: Disks> Archive<D> {
     // Writes a piece of the new version to a drive that is in.
     pub fn write(&mut self, object: u64, drive: u64) -> Result<Answer, Failure> {
         let entries = self.on_drive(object, drive)?;
-        let step = self
-            .keeper
-            .write(self.heap, object, drive, entries.as_slice());
+        let step = self.keeper.write(self.heap, object, drive, &entries);
         self.complete(object, step, AfterFault::AsBefore)
     }
 
     // Finishes a writing.
     pub fn finish(&mut self, object: u64) -> Result<Answer, Failure> {
         let entries = self.on_all(object)?;
-        let step = self.keeper.finish(self.heap, object, entries.as_slice());
+        let step = self.keeper.finish(self.heap, object, &entries);
         self.complete(object, step, AfterFault::Unsure)
     }
 
@@ -50,37 +48,33 @@ impl<D: Disks> Archive<D> {
     pub fn read(&mut self, object: u64) -> Result<Answer, Failure> {
         let mut entries = Vec::new(self.heap);
         self.add_needed(object, None, &mut entries)?;
-        let step = self.keeper.read(self.heap, object, entries.as_slice());
+        let step = self.keeper.read(self.heap, object, &entries);
         self.complete(object, step, AfterFault::AsBefore)
     }
 
     // Takes away, on a drive that is in, the versions other than the one that counts.
     pub fn tidy(&mut self, object: u64, drive: u64) -> Result<Answer, Failure> {
         let entries = self.on_drive(object, drive)?;
-        let step = self
-            .keeper
-            .tidy(self.heap, object, drive, entries.as_slice());
+        let step = self.keeper.tidy(self.heap, object, drive, &entries);
         self.complete(object, step, AfterFault::AsBefore)
     }
 
     // Takes away, on a drive that is in, an object's versions below its bar.
     pub fn sweep_object(&mut self, object: u64, drive: u64) -> Result<Answer, Failure> {
         let entries = self.on_drive(object, drive)?;
-        let step = self
-            .keeper
-            .sweep(self.heap, object, drive, entries.as_slice());
+        let step = self.keeper.sweep(self.heap, object, drive, &entries);
         self.complete(object, step, AfterFault::AsBefore)
     }
 
     // Makes the piece of the version that counts, where a drive that is in lacks it.
     pub fn mend(&mut self, object: u64, drive: u64) -> Result<Answer, Failure> {
         let mut entries = self.on_drive(object, drive)?;
-        if !self.has_counted(object, drive, entries.as_slice()) {
-            self.add_needed(object, Some(drive), &mut entries)?;
+        if let Ok(number) = u8::try_from(drive)
+            && !self.has_counted(object, number, &entries)
+        {
+            self.add_needed(object, Some(number), &mut entries)?;
         }
-        let step = self
-            .keeper
-            .mend(self.heap, object, drive, entries.as_slice());
+        let step = self.keeper.mend(self.heap, object, drive, &entries);
         self.complete(object, step, AfterFault::AsBefore)
     }
 
@@ -93,7 +87,7 @@ impl<D: Disks> Archive<D> {
     // Settles an object that is unsure.
     pub fn settle(&mut self, object: u64) -> Result<Answer, Failure> {
         let entries = self.on_all(object)?;
-        let step = self.keeper.settle(self.heap, object, entries.as_slice());
+        let step = self.keeper.settle(self.heap, object, &entries);
         self.complete(object, step, AfterFault::Unsure)
     }
 
@@ -126,21 +120,23 @@ impl<D: Disks> Archive<D> {
     }
 
     // Whether these pieces have, on a drive, the version that counts.
-    fn has_counted(&self, object: u64, drive: u64, entries: &[Entry]) -> bool {
-        let (Ok(object), Ok(drive)) = (u8::try_from(object), u8::try_from(drive)) else {
-            return false;
-        };
-        match self.keeper.counted(object) {
+    fn has_counted(&self, object: u64, drive: u8, entries: &[Entry]) -> bool {
+        match self.counted(object) {
             Some(version) => is_holder(entries, drive, version),
             None => false,
         }
+    }
+
+    // The version that an object counts; none where that isn't sure, or there is no such object.
+    fn counted(&self, object: u64) -> Option<u64> {
+        self.keeper.counted(u8::try_from(object).ok()?)
     }
 
     // Adds the pieces on the lowest drives that are in, but for one, until as many as are needed have the version that counts.
     fn add_needed(
         &mut self,
         object: u64,
-        but: Option<u64>,
+        but: Option<u8>,
         entries: &mut Vec<Entry>,
     ) -> Result<(), Fault> {
         let Ok(object) = u8::try_from(object) else {
@@ -156,16 +152,16 @@ impl<D: Disks> Archive<D> {
         &mut self,
         object: u8,
         version: u64,
-        but: Option<u64>,
+        but: Option<u8>,
         entries: &mut Vec<Entry>,
     ) -> Result<(), Fault> {
         let drives = self.keeper.drives();
         let mut wanted = self.keeper.need();
         for drive in 0..drives.count() {
-            if wanted > 0 && but != Some(u64::from(drive)) && drives.is_in(drive) {
+            if wanted > 0 && but != Some(drive) && drives.is_in(drive) {
                 let owner = Owner { object, drive };
                 self.disks.read_object(self.heap, owner, entries)?;
-                if is_holder(entries.as_slice(), drive, version) {
+                if is_holder(entries, drive, version) {
                     wanted -= 1;
                 }
             }
@@ -183,7 +179,7 @@ impl<D: Disks> Archive<D> {
         let Ok(number) = u8::try_from(object) else {
             return Ok(answer?);
         };
-        let done = self.perform_all(number, effects.as_slice());
+        let done = self.perform_all(number, &effects);
         if done.is_ok() || after == AfterFault::AsBefore {
             self.keeper.accept(object, state);
         }

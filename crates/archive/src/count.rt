@@ -109,7 +109,7 @@ impl<D: Disks> Archive<D> {
             let bar = self.keeper.bar(object);
             if bar != 0 {
                 let entries = self.on_all(u64::from(object))?;
-                count.add(self.keeper.drives(), entries.as_slice(), object, bar)?;
+                count.add(self.keeper.drives(), &entries, object, bar)?;
             }
         }
         Ok(count)

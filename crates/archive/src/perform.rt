@@ -18,7 +18,7 @@ impl<D: Disks> Archive<D> {
         ensures keeper { self.new.keeper ≡ self.old.keeper }
     {
         let bytes = self.keeper.file(self.heap, object, number, bar)?;
-        self.disks.replace_file(bytes.as_slice())
+        self.disks.replace_file(&bytes)
     }
 
     fn perform(&mut self, object: u8, effect: &Effect) -> Result<(), Fault>
@@ -35,11 +35,14 @@ impl<D: Disks> Archive<D> {
                     object,
                     drive: *drive,
                 };
-                self.disks.write(owner, *place, bytes.as_slice())
+                self.disks.write(owner, *place, bytes)
             }
             Effect::Clear { drive, place } => {
-                let (drive, place) = (*drive, *place);
-                self.disks.clear(Owner { object, drive }, place)
+                let owner = Owner {
+                    object,
+                    drive: *drive,
+                };
+                self.disks.clear(owner, *place)
             }
             Effect::Replace { number, bar } => self.replace_file(object, *number, *bar),
         }

@@ -7,6 +7,7 @@ use std::fmt;
 
 #[derive(Drop)]
 pub enum Reply {
+    // by its number; want of memory has none, and `play` tells it as a fault
     Refused(Refusal),
     Done,
     Version(u64),
@@ -68,7 +69,7 @@ pub fn reply_to(heap: Global, answer: Answer) -> Result<Reply, AllocError> {
         Answer::Version(version) => Ok(Reply::Version(version)),
         Answer::Has(version, bytes) => Ok(Reply::Has {
             version,
-            hex: script::hex(heap, bytes.as_slice())?,
+            hex: script::hex(heap, &bytes)?,
         }),
         Answer::Nothing => Ok(Reply::Nothing),
         Answer::Removed(pieces) => Ok(Reply::Pieces(pieces)),

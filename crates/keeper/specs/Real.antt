@@ -50,7 +50,7 @@ codec_of need o work_out = record { encode = λ d v p. record_of o d v p; piece_
 pub record Worked (need v : ℕ) (rs : List Reading) (result : Option Content) : Type 0 where
   pub content : (o : ℕ) (f : WorkOut) (u : Setup) → WorksOut need f → u.need ≡ need → content_of (codec_of need o f) u v rs ≡ option_map bytes_in result
 
--- What comes of a step is what is wanted of it, by the codec of its object.
+-- What comes of a step is what its definition says, by the codec of its object.
 abbrev pub ComesBy : (need o : ℕ) → Outcome → State → (Codec → Outcome) → Type 0
 ComesBy need o outcome before wanted = (f : WorkOut) → WorksOut need f → Comes outcome before (wanted (codec_of need o f))
 

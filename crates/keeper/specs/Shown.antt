@@ -1,12 +1,10 @@
 -- What the code's values stand for: the same with lists where the code has a Vec.
 -- Assumes nothing.
-use Rattle.std.specs.Prelude.{◌≡◌, ℕ, Bool, true, false, ◌⊎◌, List, map, length, Ok, Err, vec_items, Result, MatchResult, nat_le, nat_lt, slice_index_or, ◌+◌}
+use Rattle.std.specs.Prelude.{◌≡◌, ℕ, Bool, true, false, ◌⊎◌, List, map, length, Ok, Err, vec_items, Result, MatchResult, nat_lt, slice_index_or}
 use Rattle.keeper.specs.declared.refusal.Refusal.{Refusal}
-use Rattle.keeper.specs.declared.refusal.Refusal.TheVariants.{TooLong, NoMoreVersions, NoMemory}
+use Rattle.keeper.specs.declared.refusal.Refusal.TheVariants.{TooLong, NoMemory}
 use Rattle.keeper.specs.declared.writing.Content.{Content}
-use Rattle.keeper.specs.declared.writing.Writing.{Writing as WritingBegun}
-use Rattle.keeper.specs.declared.deed.Deed.{Deed}
-use Rattle.keeper.specs.declared.object.Numbers.{Numbers}
+use Rattle.keeper.specs.declared.plan.Plan.{Plan}
 use Rattle.keeper.specs.declared.object.Known.{Known}
 use Rattle.keeper.specs.declared.object.Known.TheVariants.{Unsure, Counts, Writing}
 use Rattle.keeper.specs.declared.object.Object.{Object}
@@ -17,7 +15,7 @@ use Rattle.keeper.specs.declared.object.Answer.{Answer}
 use Rattle.keeper.specs.declared.object.Answer.TheVariants.{Done, Version, Has, Nothing, Removed, Mended, Found, Unknown}
 use Rattle.keeper.specs.declared.object.Step.{Step}
 use Rattle.keeper.specs.Object.{Knowledge, unsure, counts, writing, Reading, Act, write_slot, clear_slot, replace_file, Reply, refused, done, is_version, has, none, removed, mended, found, unknown, State, Outcome, Setup, refuse}
-use Rattle.keeper.specs.Steps.{longest, last_number, raised_above}
+use Rattle.keeper.specs.Steps.{longest}
 
 abbrev pub content_of : Content → List ℕ
 content_of c = vec_items c.bytes
@@ -63,15 +61,15 @@ abbrev pub planned_outcome : State → Result Step Refusal → Outcome
 planned_outcome s (Ok step) = outcome_of step
 planned_outcome s (Err e) = refuse s e
 
-abbrev pub deed_outcome : State → Result Deed Refusal → Outcome
-deed_outcome s (Ok d) = record { reply = reply_of d.answer; acts = map act_of (vec_items d.effects); state = s }
-deed_outcome s (Err e) = refuse s e
+abbrev pub plan_outcome : State → Result Plan Refusal → Outcome
+plan_outcome s (Ok d) = record { reply = reply_of d.answer; acts = map act_of (vec_items d.effects); state = s }
+plan_outcome s (Err e) = refuse s e
 
 -- The drives, by which of them are in: there are as many as there are flags.
 abbrev pub setup_of : ℕ → List Bool → Setup
 setup_of need present = record { drives = length present; need = need; is_in = λ d. slice_index_or present d false }
 
--- What comes of a step is what is wanted of it, or memory was wanting, and nothing changes.
+-- What comes of a step is what its definition says, or memory was wanting, and nothing changes.
 abbrev pub Comes : Outcome → State → Outcome → Type 0
 Comes outcome before wanted = (outcome ≡ wanted) ⊎ (outcome ≡ refuse before NoMemory)
 
@@ -82,10 +80,3 @@ Gives step before wanted = Comes (outcome_of step) before wanted
 abbrev pub Fitting : List ℕ → Result Content Refusal → Type 0
 Fitting bytes r =
     MatchResult r (λ c. (nat_lt longest (length bytes) ≡ false) × (content_of c ≡ bytes)) (λ e. (nat_lt longest (length bytes) ≡ true) × (e ≡ TooLong))
-
--- The numbers that all objects share, once the next version's is used; refused where all are used up.
-abbrev pub Used : Numbers → Result Numbers Refusal → Type 0
-Used before r =
-    MatchResult r
-    (λ after. (nat_le last_number before.next ≡ false) × ((after.next ≡ before.next + 1) × (after.file ≡ raised_above before.file before.next)))
-    (λ e. (nat_le last_number before.next ≡ true) × (e ≡ NoMoreVersions))

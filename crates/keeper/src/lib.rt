@@ -4,10 +4,10 @@
 mod clearing;
 pub mod codec;
 mod content;
-mod deed;
 mod found;
 pub mod object;
 pub mod placing;
+mod plan;
 pub mod readings;
 pub mod refusal;
 pub mod settling;

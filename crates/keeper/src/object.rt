@@ -1,8 +1,9 @@
 // What a step of the keeper takes and gives back: an object's state, the pieces read of it, the answer, and what is to be done outside.
-ghost use Rattle.std.specs.Prelude.{◌≡◌};
+ghost use Rattle.std.specs.Prelude.{◌≡◌, ◌+◌, ◌^◌, ◌<◌, true, false, MatchResult, nat_le};
 ghost use Rattle.std.specs.Result.{result_map_both};
-ghost use Rattle.keeper.specs.Shown.{known_of, content_of, Used};
-ghost use Rattle.keeper.specs.Steps.{counted, being_written};
+ghost use Rattle.keeper.specs.Shown.{known_of, content_of};
+ghost use Rattle.keeper.specs.Steps.{counted, being_written, last_number, raised_above};
+ghost use Rattle.keeper.specs.declared.refusal.Refusal.TheVariants.{NoMoreVersions};
 
 use crate::refusal::Refusal;
 use crate::writing::Writing;
@@ -55,22 +56,31 @@ pub struct Numbers {
 }
 
 impl Numbers {
-    // The numbers once the next version's is used: where the file's isn't above it, that is raised first.
-    pub fn used(self) -> Result<Numbers, Refusal>
-        ensures { Used self result }
+    // Refused where all version numbers are used up.
+    pub fn check(self) -> Result<(), Refusal>
+        ensures { MatchResult result (λ _. nat_le last_number self.next ≡ false) (λ e. (nat_le last_number self.next ≡ true) × (e ≡ NoMoreVersions)) }
     {
         if self.next >= LAST_NUMBER {
             return Err(Refusal::NoMoreVersions);
         }
+        Ok(())
+    }
+
+    // The numbers once the next version's is used: where the file's isn't above it, that is raised first.
+    pub fn used(self) -> Numbers
+        requires { self.next < 2 ^ 63 }
+        ensures next { result.next ≡ self.next + 1 }
+        ensures file { result.file ≡ raised_above self.file self.next }
+    {
         let file = if self.file <= self.next {
             self.file + STRIDE
         } else {
             self.file
         };
-        Ok(Numbers {
+        Numbers {
             next: self.next + 1,
             file,
-        })
+        }
     }
 }
 

@@ -2,12 +2,12 @@
 ghost use Rattle.std.specs.Prelude.{◌≡◌, ◌≤◌, [], ◌∷◌, map, length, IfOk};
 ghost use Rattle.keeper.specs.Object.{write_slot};
 ghost use Rattle.keeper.specs.Real.{GivesBy, ComesBy};
-ghost use Rattle.keeper.specs.Shown.{act_of, state_of, reply_of, deed_outcome, readings_of, setup_of};
+ghost use Rattle.keeper.specs.Shown.{act_of, state_of, reply_of, plan_outcome, readings_of, setup_of};
 ghost use Rattle.keeper.specs.Steps.{write as write_of, read as read_of, mend as mend_of};
 
 use crate::codec::Codec;
-use crate::deed::{Deed, leaving};
 use crate::object::{Answer, Effect, Object, Step};
+use crate::plan::{Plan, step_keeping_state};
 use crate::readings::{is_holder, place_for};
 use crate::refusal::Refusal;
 use crate::view::View;
@@ -18,13 +18,13 @@ pub fn write(view: View<'_>, codec: Codec, object: Object, drive: u8) -> Step
     requires { length view.present.now ≤ 32 }
     ensures { GivesBy codec.need codec.object result (state_of object) (λ C. write_of C (setup_of codec.need view.entry.present.now) (state_of object) drive (readings_of view.entry.entries.now)) }
 {
-    let planned = written(view, codec, &object, drive);
-    leaving(view.heap, object, planned)
+    let planned = plan_write(view, codec, &object, drive);
+    step_keeping_state(view.heap, object, planned)
 }
 
-fn written(view: View<'_>, codec: Codec, object: &Object, drive: u8) -> Result<Deed, Refusal>
+fn plan_write(view: View<'_>, codec: Codec, object: &Object, drive: u8) -> Result<Plan, Refusal>
     requires { length view.present.now ≤ 32 }
-    ensures { ComesBy codec.need codec.object (deed_outcome (state_of object.now) result) (state_of object.now) (λ C. write_of C (setup_of codec.need view.entry.present.now) (state_of object.now) drive (readings_of view.entry.entries.now)) }
+    ensures { ComesBy codec.need codec.object (plan_outcome (state_of object.now) result) (state_of object.now) (λ C. write_of C (setup_of codec.need view.entry.present.now) (state_of object.now) drive (readings_of view.entry.entries.now)) }
 {
     view.check_drive(drive)?;
     let writing = object.known.writing()?;
@@ -43,7 +43,7 @@ fn place(
     drive: u8,
     place: u8,
     bytes: Vec<u8>,
-) -> Result<Deed, AllocError>
+) -> Result<Plan, AllocError>
     ensures { IfOk result (λ d. (reply_of d.answer ≡ reply_of answer) × (map act_of d.effects.items ≡ write_slot drive place bytes.items ∷ [])) }
 {
     let effects = vec![in heap;
@@ -53,26 +53,26 @@ fn place(
             bytes
         },
     ]?;
-    Ok(Deed { answer, effects })
+    Ok(Plan { answer, effects })
 }
 
 // Reads an object that counts a version: any pieces of it, as many as are needed, give it; version 0 is no object.
 pub fn read(view: View<'_>, codec: Codec, object: Object) -> Step
     ensures { GivesBy codec.need codec.object result (state_of object) (λ C. read_of C (setup_of codec.need view.entry.present.now) (state_of object) (readings_of view.entry.entries.now)) }
 {
-    let planned = was_read(view, codec, &object);
-    leaving(view.heap, object, planned)
+    let planned = plan_read(view, codec, &object);
+    step_keeping_state(view.heap, object, planned)
 }
 
-fn was_read(view: View<'_>, codec: Codec, object: &Object) -> Result<Deed, Refusal>
-    ensures { ComesBy codec.need codec.object (deed_outcome (state_of object.now) result) (state_of object.now) (λ C. read_of C (setup_of codec.need view.entry.present.now) (state_of object.now) (readings_of view.entry.entries.now)) }
+fn plan_read(view: View<'_>, codec: Codec, object: &Object) -> Result<Plan, Refusal>
+    ensures { ComesBy codec.need codec.object (plan_outcome (state_of object.now) result) (state_of object.now) (λ C. read_of C (setup_of codec.need view.entry.present.now) (state_of object.now) (readings_of view.entry.entries.now)) }
 {
     let version = object.known.counted()?;
     if version == 0 {
-        return Ok(Deed::told(view.heap, Answer::Nothing));
+        return Ok(Plan::told(view.heap, Answer::Nothing));
     }
     match codec.content(view.heap, view.entries, version)? {
-        Some(content) => Ok(Deed::told(view.heap, Answer::Has(version, content.bytes))),
+        Some(content) => Ok(Plan::told(view.heap, Answer::Has(version, content.bytes))),
         None => Err(Refusal::TooFewPieces),
     }
 }
@@ -82,19 +82,19 @@ pub fn mend(view: View<'_>, codec: Codec, object: Object, drive: u8) -> Step
     requires { length view.present.now ≤ 32 }
     ensures { GivesBy codec.need codec.object result (state_of object) (λ C. mend_of C (setup_of codec.need view.entry.present.now) (state_of object) drive (readings_of view.entry.entries.now)) }
 {
-    let planned = mended(view, codec, &object, drive);
-    leaving(view.heap, object, planned)
+    let planned = plan_mend(view, codec, &object, drive);
+    step_keeping_state(view.heap, object, planned)
 }
 
-fn mended(view: View<'_>, codec: Codec, object: &Object, drive: u8) -> Result<Deed, Refusal>
+fn plan_mend(view: View<'_>, codec: Codec, object: &Object, drive: u8) -> Result<Plan, Refusal>
     requires { length view.present.now ≤ 32 }
-    ensures { ComesBy codec.need codec.object (deed_outcome (state_of object.now) result) (state_of object.now) (λ C. mend_of C (setup_of codec.need view.entry.present.now) (state_of object.now) drive (readings_of view.entry.entries.now)) }
+    ensures { ComesBy codec.need codec.object (plan_outcome (state_of object.now) result) (state_of object.now) (λ C. mend_of C (setup_of codec.need view.entry.present.now) (state_of object.now) drive (readings_of view.entry.entries.now)) }
 {
     view.check_drive(drive)?;
     let version = object.known.counted()?;
     view.check_in(drive)?;
     if version != 0 && is_holder(view.entries, drive, version) {
-        return Ok(Deed::told(view.heap, Answer::Mended(0)));
+        return Ok(Plan::told(view.heap, Answer::Mended(0)));
     }
     let Some(at) = place_for(view.entries, drive, version) else {
         return Err(Refusal::NoPlace);

@@ -2,23 +2,13 @@
 use crate::setup::SetupError;
 use archive::Fault;
 use std::alloc::AllocError;
-use std::{fmt, io};
+use std::io;
 
 #[derive(Drop)]
 pub enum Ended {
     Setup(SetupError),
     Fault(Fault),
     Io(io::Error),
-}
-
-impl fmt::Display for Ended {
-    fn fmt<W: fmt::Write>(&self, f: &mut fmt::Formatter<W>) -> fmt::Result {
-        match self {
-            Ended::Setup(e) => write!(f, "{e}"),
-            Ended::Fault(fault) => write!(f, "{fault}"),
-            Ended::Io(e) => write!(f, "{e}"),
-        }
-    }
 }
 
 impl From<SetupError> for Ended {

@@ -12,19 +12,22 @@ use ended::Ended;
 use rehearsal::Rehearsal;
 use script::Command;
 use setup::{Setup, SetupError, set_up};
+use std::env;
 use std::io::{BufRead, BufReader};
 use std::process::ExitCode;
-use std::{env, io};
 
-// The message is printed here, since what `main` returns would be printed as `Error: ..`.
+// The message is printed here, since what `main` returns would be printed as `Error: ..`. Where a line can't be read or written there is none.
 fn main(rt: HostRuntime) -> ExitCode {
-    match run(&rt) {
-        Ok(()) => ExitCode::SUCCESS,
-        Err(ended) => {
-            let _ = eprintln!(rt; "rehearse: {ended}");
-            ExitCode::FAILURE
-        }
-    }
+    let ended = match run(&rt) {
+        Ok(()) => return ExitCode::SUCCESS,
+        Err(ended) => ended,
+    };
+    let _ = match ended {
+        Ended::Setup(e) => eprintln!(rt; "rehearse: {e}"),
+        Ended::Fault(fault) => eprintln!(rt; "rehearse: {fault}"),
+        Ended::Io(e) => Err(e),
+    };
+    ExitCode::FAILURE
 }
 
 fn run(rt: &HostRuntime) -> Result<(), Ended> {

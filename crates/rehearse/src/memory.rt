@@ -152,7 +152,10 @@ impl Disks for Memory {
         if self.waiting == Some(StopAt::FileOld) {
             return Err(Fault::Stopped);
         }
-        self.file = Some(Vec::from_slice(self.heap, bytes)?);
+        match &mut self.file {
+            Some(file) if file.len() == bytes.len() => file.as_mut_slice().copy_from_slice(bytes),
+            _ => self.file = Some(Vec::from_slice(self.heap, bytes)?),
+        }
         outcome(self.waiting == Some(StopAt::FileNew))
     }
 }

@@ -85,6 +85,7 @@ impl Rehearsal {
         if self.archive.disks.spoil(Owner { object, drive }, version) {
             Reply::Done
         } else {
+            // told by the number of a version with too few pieces
             Reply::Refused(Refusal::TooFewPieces)
         }
     }

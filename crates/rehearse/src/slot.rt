@@ -6,8 +6,6 @@ use std::alloc::{AllocError, Global};
 // The place of a piece's first byte in a slot.
 const HEADER: usize = 15;
 
-const ZEROS: [u8; SLOT] = [0; SLOT];
-
 // Writes bytes to the front of a slot. Where the writing is cut, only those at even places get there, and the slot is then held in full, since the length
 // that its header names may be any.
 pub fn write_over(slot: &mut Vec<u8>, bytes: &[u8], cut: bool) -> Result<(), AllocError> {
@@ -37,8 +35,10 @@ fn mix(slot: &mut [u8], bytes: &[u8]) {
 // Writes zeros over the record in a slot, and nothing where there is none. Where that is cut, only those at even places get there.
 pub fn clear_over(slot: &mut [u8], owner: Owner, cut: bool) {
     if cut {
-        let len = record_len(slot, owner).min(SLOT);
-        mix(slot, &ZEROS[..len]);
+        let len = record_len(slot, owner);
+        for byte in slot.iter_mut().take(len).step_by(2) {
+            *byte = 0;
+        }
     } else {
         let _ = slots::clear(slot, owner);
     }

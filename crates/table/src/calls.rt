@@ -15,18 +15,26 @@ use keeper::view::View;
 use keeper::{placing, settling, steps};
 use std::alloc::Global;
 
+// The object of a number; none where there is no such object.
+fn object_of(object: u64) -> Option<u8>
+    ensures { MatchOption result (objects ≤ object) (λ o. (object < objects) × (o ≡ object)) }
+{
+    if object < OBJECTS as u64 {
+        Some(object as u8)
+    } else {
+        None
+    }
+}
+
 impl Keeper {
-    // How an object's pieces are made and worked out; none where there is no such object.
-    fn codec(&self, object: u64) -> Option<Codec>
-        ensures { MatchOption result (objects ≤ object) (λ c. (object < objects) × (c.object ≡ object) × (c.need ≡ self.now.need)) }
+    // How an object's pieces are made and worked out.
+    fn codec(&self, object: u8) -> Codec
+        ensures { (result.object ≡ object) × (result.need ≡ self.now.need) }
     {
-        if object >= OBJECTS as u64 {
-            return None;
-        }
-        Some(Codec {
-            object: object as u8,
+        Codec {
+            object,
             need: self.need,
-        })
+        }
     }
 
     // What a step looks at.
@@ -48,7 +56,7 @@ impl Keeper {
         ensures after { Lent self.old self.new object }
     {
         let state = self.lend(object);
-        if object >= OBJECTS as u64 {
+        if object_of(object).is_none() {
             return steps::refuse(heap, state, Refusal::NoSuch);
         }
         steps::begin(heap, state, bytes)
@@ -60,10 +68,10 @@ impl Keeper {
         ensures after { Lent self.old self.new object }
     {
         let state = self.lend(object);
-        let (Some(codec), Some(drive)) = (self.codec(object), self.drive_of(drive)) else {
+        let (Some(object), Some(drive)) = (object_of(object), self.drive_of(drive)) else {
             return steps::refuse(heap, state, Refusal::NoSuch);
         };
-        placing::write(self.view(heap, entries), codec, state, drive)
+        placing::write(self.view(heap, entries), self.codec(object), state, drive)
     }
 
     // Finishes a writing. `entries` are those of all drives that are in.
@@ -72,10 +80,10 @@ impl Keeper {
         ensures after { Lent self.old self.new object }
     {
         let state = self.lend(object);
-        let Some(codec) = self.codec(object) else {
+        if object_of(object).is_none() {
             return steps::refuse(heap, state, Refusal::NoSuch);
-        };
-        steps::finish(self.view(heap, entries), codec.need, state)
+        }
+        steps::finish(self.view(heap, entries), self.need, state)
     }
 
     // Reads an object that counts a version. Enough pieces of that version are enough entries.
@@ -84,10 +92,10 @@ impl Keeper {
         ensures after { Lent self.old self.new object }
     {
         let state = self.lend(object);
-        let Some(codec) = self.codec(object) else {
+        let Some(object) = object_of(object) else {
             return steps::refuse(heap, state, Refusal::NoSuch);
         };
-        placing::read(self.view(heap, entries), codec, state)
+        placing::read(self.view(heap, entries), self.codec(object), state)
     }
 
     // Tidies an object that counts a version on a drive that is in. `entries` are the drive's.
@@ -96,7 +104,7 @@ impl Keeper {
         ensures after { Lent self.old self.new object }
     {
         let state = self.lend(object);
-        let (Some(_), Some(drive)) = (self.codec(object), self.drive_of(drive)) else {
+        let (Some(_), Some(drive)) = (object_of(object), self.drive_of(drive)) else {
             return steps::refuse(heap, state, Refusal::NoSuch);
         };
         steps::tidy(self.view(heap, entries), state, drive)
@@ -108,7 +116,7 @@ impl Keeper {
         ensures after { Lent self.old self.new object }
     {
         let state = self.lend(object);
-        let (Some(_), Some(drive)) = (self.codec(object), self.drive_of(drive)) else {
+        let (Some(_), Some(drive)) = (object_of(object), self.drive_of(drive)) else {
             return steps::refuse(heap, state, Refusal::NoSuch);
         };
         steps::sweep(self.view(heap, entries), state, drive)
@@ -120,10 +128,10 @@ impl Keeper {
         ensures after { Lent self.old self.new object }
     {
         let state = self.lend(object);
-        let (Some(codec), Some(drive)) = (self.codec(object), self.drive_of(drive)) else {
+        let (Some(object), Some(drive)) = (object_of(object), self.drive_of(drive)) else {
             return steps::refuse(heap, state, Refusal::NoSuch);
         };
-        placing::mend(self.view(heap, entries), codec, state, drive)
+        placing::mend(self.view(heap, entries), self.codec(object), state, drive)
     }
 
     // Gives up an unfinished writing.
@@ -132,7 +140,7 @@ impl Keeper {
         ensures after { Lent self.old self.new object }
     {
         let state = self.lend(object);
-        if object >= OBJECTS as u64 {
+        if object_of(object).is_none() {
             return steps::refuse(heap, state, Refusal::NoSuch);
         }
         steps::give_up(heap, state)
@@ -144,9 +152,9 @@ impl Keeper {
         ensures after { Lent self.old self.new object }
     {
         let state = self.lend(object);
-        let Some(codec) = self.codec(object) else {
+        let Some(object) = object_of(object) else {
             return steps::refuse(heap, state, Refusal::NoSuch);
         };
-        settling::settle(self.view(heap, entries), codec, state)
+        settling::settle(self.view(heap, entries), self.codec(object), state)
     }
 }

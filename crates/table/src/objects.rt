@@ -15,7 +15,7 @@ use keeper::refusal::Refusal;
 use std::alloc::{AllocError, Global};
 use std::mem::replace;
 
-// Takes out what is known of an object, which stands as unsure from then on; past the end nothing changes.
+// An object's row, taken out: there it stands as unsure from then on, with its bar. Past the end nothing changes.
 fn take_row(rows: &mut Vec<Row>, at: u64) -> Row
     ensures known { known_of result.known ≡ slice_index_or (map (λ r. known_of r.known) rows.old.items) at unsure }
     ensures bar { result.bar ≡ slice_index (map (λ r. r.bar) rows.old.items) at }

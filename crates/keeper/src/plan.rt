@@ -1,6 +1,6 @@
-// Planned steps: what they come to, or why they are refused.
+// A step is planned first, over an object that is only looked at: what it comes to, or why it is refused. Then the object is handed back.
 ghost use Rattle.std.specs.Prelude.{◌≡◌, [], map};
-ghost use Rattle.keeper.specs.Shown.{act_of, state_of, reply_of, outcome_of, planned_outcome, deed_outcome};
+ghost use Rattle.keeper.specs.Shown.{act_of, state_of, reply_of, outcome_of, planned_outcome, plan_outcome};
 ghost use Rattle.keeper.specs.Object.{refuse as refusal_of};
 
 use crate::object::{Answer, Effect, Object, Step};
@@ -9,17 +9,17 @@ use std::alloc::Global;
 
 // What is told and done by a step that leaves the object's state as it is.
 #[derive(Drop)]
-pub(crate) struct Deed {
+pub(crate) struct Plan {
     pub(crate) answer: Answer,
     pub(crate) effects: Vec<Effect>,
 }
 
-impl Deed {
+impl Plan {
     // Something is told, and nothing done.
-    pub(crate) fn told(heap: Global, answer: Answer) -> Deed
+    pub(crate) fn told(heap: Global, answer: Answer) -> Plan
         ensures { (reply_of result.answer ≡ reply_of answer) × (map act_of result.effects.items ≡ []) }
     {
-        Deed {
+        Plan {
             answer,
             effects: Vec::new(heap),
         }
@@ -37,8 +37,8 @@ pub fn refuse(heap: Global, object: Object, why: Refusal) -> Step
     }
 }
 
-// The step as it was planned, or refused.
-pub(crate) fn changing(heap: Global, object: Object, planned: Result<Step, Refusal>) -> Step
+// The step as it was planned; where it is refused, the object as it was.
+pub(crate) fn step_or_refusal(heap: Global, object: Object, planned: Result<Step, Refusal>) -> Step
     ensures { outcome_of result ≡ planned_outcome (state_of object) planned }
 {
     match planned {
@@ -48,11 +48,15 @@ pub(crate) fn changing(heap: Global, object: Object, planned: Result<Step, Refus
 }
 
 // The same of a step that leaves the object's state.
-pub(crate) fn leaving(heap: Global, object: Object, planned: Result<Deed, Refusal>) -> Step
-    ensures { outcome_of result ≡ deed_outcome (state_of object) planned }
+pub(crate) fn step_keeping_state(
+    heap: Global,
+    object: Object,
+    planned: Result<Plan, Refusal>,
+) -> Step
+    ensures { outcome_of result ≡ plan_outcome (state_of object) planned }
 {
     match planned {
-        Ok(Deed { answer, effects }) => Step {
+        Ok(Plan { answer, effects }) => Step {
             answer: Ok(answer),
             effects,
             object,
