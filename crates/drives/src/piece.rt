@@ -1,13 +1,13 @@
 // The pieces of an object on a drive: found, placed, written and taken away.
-ghost use Rattle.std.specs.Prelude.{◌≡◌, ◌<◌};
+ghost use Rattle.std.specs.Prelude.{◌≡◌};
 ghost use Rattle.std.specs.Option.{option_map};
 ghost use Rattle.slots.specs.Slot.{read_slot, has_room, written};
-ghost use Rattle.drives.specs.Place.{places, slot_at, with_slot, readings};
+ghost use Rattle.drives.specs.Place.{slot_at, with_slot, readings};
 ghost use Rattle.drives.specs.View.{find, place_for};
 ghost use Rattle.drives.specs.Rule.{names_slot};
 ghost use Rattle.drives.specs.Steps.{write_answer, after_write, taken_at, after_taking, how_many_named};
 
-use crate::layout::{PLACES, bounds, slot_of};
+use crate::layout::{PLACES, Place, bounds, slot_of};
 use crate::rule::Rule;
 use crate::view::{place_in, versions};
 use slots::{Owner, clear, read, write};
@@ -24,8 +24,8 @@ pub enum Unwritten {
 pub fn find_piece(drive: &[u8], owner: Owner, version: u64) -> Option<&[u8]>
     ensures { option_map (λ x. x.now) result ≡ find version (readings drive.now owner.object owner.drive) }
 {
-    for place in 0..PLACES {
-        if let Some(held) = read(slot_of(drive, owner.object, place), owner)
+    for index in 0..PLACES {
+        if let Some(held) = read(slot_of(drive, owner.object, Place { index }), owner)
             && held.version == version
         {
             return Some(held.piece);
@@ -43,10 +43,9 @@ pub fn place_for(drive: &[u8], owner: Owner, version: u64) -> Option<usize>
 
 // Writes a piece of a version at a place, and leaves every other slot. False, and nothing changes, where there is no room for it.
 #[tactic(auto, using(crate::proofs::Standing::slot_cut, crate::proofs::Standing::slot_put))]
-fn write_at(drive: &mut [u8], owner: Owner, place: usize, version: u64, piece: &[u8]) -> bool
-    requires { place < places }
-    ensures answer { result ≡ has_room (slot_at drive.old owner.object place) piece.now }
-    ensures after { drive.new ≡ with_slot drive.old owner.object place (written owner.object owner.drive version piece.now (slot_at drive.old owner.object place)) }
+fn write_at(drive: &mut [u8], owner: Owner, place: Place, version: u64, piece: &[u8]) -> bool
+    ensures answer { result ≡ has_room (slot_at drive.old owner.object place.index) piece.now }
+    ensures after { drive.new ≡ with_slot drive.old owner.object place.index (written owner.object owner.drive version piece.now (slot_at drive.old owner.object place.index)) }
 {
     let part = bounds(drive.len(), owner.object, place);
     write(&mut drive[part], owner, version, piece)
@@ -63,20 +62,19 @@ pub fn write_piece(
     ensures answer { result ≡ write_answer drive.old owner.object owner.drive version piece.now }
     ensures after { drive.new ≡ after_write drive.old owner.object owner.drive version piece.now }
 {
-    let Some(place) = place_for(drive, owner, version) else {
+    let Some(index) = place_for(drive, owner, version) else {
         return Err(Unwritten::NoPlace);
     };
-    if write_at(drive, owner, place, version, piece) {
-        Ok(place)
+    if write_at(drive, owner, Place { index }, version, piece) {
+        Ok(index)
     } else {
         Err(Unwritten::NoRoom)
     }
 }
 
 // Whether a rule names what the slot at a place reads as.
-fn is_named(drive: &[u8], owner: Owner, place: usize, rule: Rule) -> bool
-    requires { place < places }
-    ensures { result ≡ names_slot rule (read_slot owner.object owner.drive (slot_at drive.now owner.object place)) }
+fn is_named(drive: &[u8], owner: Owner, place: Place, rule: Rule) -> bool
+    ensures { result ≡ names_slot rule (read_slot owner.object owner.drive (slot_at drive.now owner.object place.index)) }
 {
     let held = read(slot_of(drive, owner.object, place), owner);
     held.is_some_and(|held| rule.names_version(held.version))
@@ -84,10 +82,9 @@ fn is_named(drive: &[u8], owner: Owner, place: usize, rule: Rule) -> bool
 
 // Takes away what a rule names at a place, and says whether it does.
 #[tactic(auto, using(crate::proofs::Standing::slot_cut, crate::proofs::Standing::slot_put))]
-fn take_at(drive: &mut [u8], owner: Owner, place: usize, rule: Rule) -> bool
-    requires { place < places }
-    ensures answer { result ≡ names_slot rule (read_slot owner.object owner.drive (slot_at drive.old owner.object place)) }
-    ensures after { drive.new ≡ taken_at drive.old owner.object owner.drive place rule }
+fn take_at(drive: &mut [u8], owner: Owner, place: Place, rule: Rule) -> bool
+    ensures answer { result ≡ names_slot rule (read_slot owner.object owner.drive (slot_at drive.old owner.object place.index)) }
+    ensures after { drive.new ≡ taken_at drive.old owner.object owner.drive place.index rule }
 {
     if !is_named(drive, owner, place, rule) {
         return false;
@@ -104,8 +101,8 @@ pub fn take_away(drive: &mut [u8], owner: Owner, rule: Rule) -> usize
     ensures after { drive.new ≡ after_taking drive.old owner.object owner.drive rule }
 {
     let mut gone = 0;
-    for place in 0..PLACES {
-        if take_at(drive, owner, place, rule) {
+    for index in 0..PLACES {
+        if take_at(drive, owner, Place { index }, rule) {
             gone += 1;
         }
     }

@@ -1,10 +1,10 @@
 // The versions that an object has on a drive, place by place.
 ghost use Rattle.std.specs.Prelude.{◌≡◌, ℕ, ◌<◌, List, map, length, None, slice_index_or};
 ghost use Rattle.slots.specs.Slot.{read_slot};
-ghost use Rattle.drives.specs.Place.{places, slot_at, readings};
+ghost use Rattle.drives.specs.Place.{slot_at, readings};
 ghost use Rattle.drives.specs.View.{same, index_of, firsts, place_in, version_of, distinct};
 
-use crate::layout::{PLACES, slot_of};
+use crate::layout::{PLACES, Place, slot_of};
 use slots::{Owner, read};
 use std::array;
 
@@ -23,9 +23,8 @@ pub fn place_in(version: u64, versions: &[Option<u64>]) -> Option<usize>
 }
 
 // The version that the slot at a place has, whether or not it counts.
-fn version_at(drive: &[u8], owner: Owner, place: usize) -> Option<u64>
-    requires { place < places }
-    ensures { result ≡ version_of (read_slot owner.object owner.drive (slot_at drive.now owner.object place)) }
+fn version_at(drive: &[u8], owner: Owner, place: Place) -> Option<u64>
+    ensures { result ≡ version_of (read_slot owner.object owner.drive (slot_at drive.now owner.object place.index)) }
 {
     Some(read(slot_of(drive, owner.object, place), owner)?.version)
 }
@@ -34,7 +33,7 @@ fn version_at(drive: &[u8], owner: Owner, place: usize) -> Option<u64>
 fn all_versions(drive: &[u8], owner: Owner) -> [Option<u64>; PLACES]
     ensures { result ≡ map version_of (readings drive.now owner.object owner.drive) }
 {
-    array::from_fn(|place| version_at(drive, owner, place))
+    array::from_fn(|index| version_at(drive, owner, Place::at(index)))
 }
 
 // The version that counts at a place: none where an earlier place has it.

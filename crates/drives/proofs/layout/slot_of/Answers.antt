@@ -5,4 +5,4 @@ use Rattle.drives.proofs.layout.slot_of.Goals as goal
 
 pub returns : goal.returns
 unfolding slot_at
-returns c = part_cut c.args.drive.now (slot_from c.args.object c.args.place) slot_size c.bounds.result.start c.bounds.result.end c.bounds.ensures.0 c.bounds.ensures.1
+returns c = part_cut c.args.drive.now (slot_from c.args.object c.args.place.index) slot_size c.bounds.result.start c.bounds.result.end c.bounds.ensures.0 c.bounds.ensures.1

@@ -9,4 +9,4 @@ pub returns-clause-answer : goal.returns-clause-answer
 returns-clause-answer c =
     let ss = readings c.args.drive.now c.args.owner.object c.args.owner.drive in
     let long = length_readings c.args.drive.now c.args.owner.object c.args.owner.drive in
-    c.loop-place.invariant.1 ∙ ap (count_by (names_slot c.args.rule)) (take_all c.loop-place.place ss (omega (arith, c.loop-place.auto.place-end, c.loop-place-test.false)))
+    c.loop-index.invariant.1 ∙ ap (count_by (names_slot c.args.rule)) (take_all c.loop-index.index ss (omega (arith, c.loop-index.auto.index-end, c.loop-index-test.false)))

@@ -2,7 +2,7 @@ use Rattle.std.proofs.Common.{sym, ◌∙◌, rules, tests}
 use Rattle.std.proofs.lemmas.Iterator.{YieldsList-from_slice}
 use Rattle.std.proofs.lemmas.Iterator.Search.{any_from_yields_List}
 use Rattle.keeper.specs.Readings.{precedes}
-use Rattle.keeper.specs.Shown.{reading_of, readings_of}
+use Rattle.keeper.specs.Shown.{reading_of}
 use Rattle.keeper.proofs.Scan.{any_seen}
 use Rattle.keeper.proofs.readings.is_copy.Goals as goal
 

@@ -1,6 +1,5 @@
-use Rattle.std.proofs.Common.{◌≡◌, ℕ, ◌<◌, ◌≤◌, map, length, take, vec_items, ap, ◌∙◌, arith}
-use Rattle.keeper.specs.Readings.{pieces_of, given}
-use Rattle.keeper.specs.Real.{piece_given}
+use Rattle.std.proofs.Common.{◌<◌, ◌≤◌, length, take, vec_items, ap, ◌∙◌, arith}
+use Rattle.keeper.specs.Readings.{pieces_of}
 use Rattle.keeper.specs.Shown.{readings_of}
 use Rattle.keeper.proofs.Bridge.{chosen_many, chosen_first, content_few, content_worked, content_none}
 use Rattle.keeper.proofs.codec.Codec.content.Goals as goal
