@@ -19,7 +19,7 @@ pub enum Unwritten {
     NoPlace,
 }
 
-// The piece of a version of an object on a drive, still in the drive's bytes.
+// The piece of a version of an object on a drive, still in the drive's bytes. A `for`, since no lemma says which call gave the answer of `find_map`.
 #[tactic(auto, using(crate::proofs::Finding::find_step, crate::proofs::Finding::find_end))]
 pub fn find_piece(drive: &[u8], owner: Owner, version: u64) -> Option<&[u8]>
     ensures { option_map (λ x. x.now) result ≡ find version (readings drive.now owner.object owner.drive) }

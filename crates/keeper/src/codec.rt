@@ -34,6 +34,7 @@ impl Codec {
         requires { drive ≤ 31 }
         ensures { IfOk result (λ v. v.items ≡ record_of self.object drive version (piece_of self.need drive (content_of content.now))) }
     {
+        // Nothing but want of memory is left for it to refuse.
         let Ok(piece) = pieces::make(heap, self.need, drive, content.bytes.as_slice()) else {
             return Err(AllocError);
         };
@@ -64,6 +65,7 @@ impl Codec {
         chosen.truncate(need);
         match pieces::work_out(heap, self.need, chosen.as_slice()) {
             Ok(bytes) => Ok(Some(Content { bytes })),
+            // Two matches: of a pattern within a pattern the proof doesn't learn which errors are left.
             Err(why) => match why {
                 PieceError::NoMemory => Err(AllocError),
                 _ => Ok(None),

@@ -6,7 +6,8 @@ use crate::object::Entry;
 use crate::refusal::Refusal;
 use std::alloc::Global;
 
-// Which drives are in, by number, and the pieces of the object that were read on them.
+// Which drives are in, by number, and the pieces of the object that were read on them. How many drives there may be is asked by the steps that need it (write,
+// mend, finish) and is no part of the type, since the other steps ask nothing.
 #[derive(Clone, Copy)]
 pub struct View<'a> {
     pub heap: Global,
