@@ -15,7 +15,7 @@ pub struct Archive<D> {
 }
 
 // What is known of an object once a step on it fails half-way.
-#[derive(Clone, Copy, PartialEq, Eq)]
+#[derive(Clone, Copy, PartialEq, Eq, Debug)]
 enum AfterFault {
     // Nothing for sure: the step changes its state, or the file.
     Unsure,
@@ -32,16 +32,12 @@ impl<D: Disks> Archive<D> {
 
     // Writes a piece of the new version to a drive that is in.
     pub fn write(&mut self, object: u64, drive: u64) -> Result<Answer, Failure> {
-        let entries = self.on_drive(object, drive)?;
-        let step = self.keeper.write(self.heap, object, drive, &entries);
-        self.complete(object, step, AfterFault::AsBefore)
+        self.step_on_drive(object, drive, Keeper::write)
     }
 
     // Finishes a writing.
     pub fn finish(&mut self, object: u64) -> Result<Answer, Failure> {
-        let entries = self.on_all(object)?;
-        let step = self.keeper.finish(self.heap, object, &entries);
-        self.complete(object, step, AfterFault::Unsure)
+        self.step_on_all(object, Keeper::finish)
     }
 
     // Reads an object that counts a version.
@@ -54,16 +50,12 @@ impl<D: Disks> Archive<D> {
 
     // Takes away, on a drive that is in, the versions other than the one that counts.
     pub fn tidy(&mut self, object: u64, drive: u64) -> Result<Answer, Failure> {
-        let entries = self.on_drive(object, drive)?;
-        let step = self.keeper.tidy(self.heap, object, drive, &entries);
-        self.complete(object, step, AfterFault::AsBefore)
+        self.step_on_drive(object, drive, Keeper::tidy)
     }
 
     // Takes away, on a drive that is in, an object's versions below its bar.
     pub fn sweep_object(&mut self, object: u64, drive: u64) -> Result<Answer, Failure> {
-        let entries = self.on_drive(object, drive)?;
-        let step = self.keeper.sweep(self.heap, object, drive, &entries);
-        self.complete(object, step, AfterFault::AsBefore)
+        self.step_on_drive(object, drive, Keeper::sweep)
     }
 
     // Makes the piece of the version that counts, where a drive that is in lacks it.
@@ -86,8 +78,33 @@ impl<D: Disks> Archive<D> {
 
     // Settles an object that is unsure.
     pub fn settle(&mut self, object: u64) -> Result<Answer, Failure> {
+        self.step_on_all(object, Keeper::settle)
+    }
+
+    // A step that looks at the pieces on a drive, and leaves the object's state.
+    fn step_on_drive<F: FnOnce(&mut Keeper, Global, u64, u64, &[Entry]) -> Step>(
+        &mut self,
+        object: u64,
+        drive: u64,
+        step: F,
+    ) -> Result<Answer, Failure>
+        requires { F.IsAlwaysCallable step }
+    {
+        let entries = self.on_drive(object, drive)?;
+        let step = step(&mut self.keeper, self.heap, object, drive, &entries);
+        self.complete(object, step, AfterFault::AsBefore)
+    }
+
+    // A step that looks at the pieces on all drives that are in, and changes the object's state.
+    fn step_on_all<F: FnOnce(&mut Keeper, Global, u64, &[Entry]) -> Step>(
+        &mut self,
+        object: u64,
+        step: F,
+    ) -> Result<Answer, Failure>
+        requires { F.IsAlwaysCallable step }
+    {
         let entries = self.on_all(object)?;
-        let step = self.keeper.settle(self.heap, object, &entries);
+        let step = step(&mut self.keeper, self.heap, object, &entries);
         self.complete(object, step, AfterFault::Unsure)
     }
 
@@ -121,10 +138,8 @@ impl<D: Disks> Archive<D> {
 
     // Whether these pieces have, on a drive, the version that counts.
     fn has_counted(&self, object: u64, drive: u8, entries: &[Entry]) -> bool {
-        match self.counted(object) {
-            Some(version) => is_holder(entries, drive, version),
-            None => false,
-        }
+        self.counted(object)
+            .is_some_and(|version| is_holder(entries, drive, version))
     }
 
     // The version that an object counts; none where that isn't sure, or there is no such object.

@@ -19,7 +19,7 @@ pub(crate) struct Place {
 }
 
 impl Place {
-    // For closures, which then ask this of their callers.
+    // For closures: there the bound is asked by a call, and not by the literal.
     pub(crate) fn at(index: usize) -> Place
         requires { index < places }
         ensures { result.index ≡ index }

@@ -49,7 +49,7 @@ impl Drives {
     }
 
     // The drive is in from now on, or out, as `is_in` says. False, and nothing changes, where there is no such drive.
-    fn set(&mut self, drive: u8, is_in: bool) -> bool
+    pub fn set(&mut self, drive: u8, is_in: bool) -> bool
         ensures answer { result ≡ nat_lt drive self.old.count }
         ensures count { self.new.count ≡ self.old.count }
         ensures after { self.new.present ≡ set_at self.old.count self.old.present drive is_in }

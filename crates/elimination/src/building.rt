@@ -55,7 +55,7 @@ impl Matrix {
         out.extend((0..self.rows).map(|i| self.entry(i, c)))
     }
 
-    // The columns past the first ones, of which there is one for each row, one after the other. `size` is how many bytes that makes.
+    // The columns past the square at the front, one after the other. `size` is how many bytes that makes.
     pub fn further_columns(&self, heap: Global, size: usize) -> Result<Vec<u8>, AllocError>
         requires { self.now.rows ≤ self.now.width }
         ensures { IfOk result (λ v. v.items ≡ further_columns self.now.rows (self.now.width - self.now.rows) self.now.cells.items) }

@@ -62,7 +62,7 @@ planned_outcome s (Ok step) = outcome_of step
 planned_outcome s (Err e) = refuse s e
 
 abbrev pub plan_outcome : State → Result Plan Refusal → Outcome
-plan_outcome s (Ok d) = record { reply = reply_of d.answer; acts = map act_of (vec_items d.effects); state = s }
+plan_outcome s (Ok p) = record { reply = reply_of p.answer; acts = map act_of (vec_items p.effects); state = s }
 plan_outcome s (Err e) = refuse s e
 
 -- The drives, by which of them are in: there are as many as there are flags.

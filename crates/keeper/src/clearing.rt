@@ -8,7 +8,7 @@ use crate::object::{Effect, Entry};
 use std::alloc::AllocError;
 
 // Which of an object's pieces are to go. `drives::Rule` names versions; with it and an `Option` of a drive in its place, each step would say the same in two parts.
-#[derive(Clone, Copy)]
+#[derive(Clone, Copy, PartialEq, Eq, Debug)]
 pub enum Rule {
     // on a drive, all versions but one
     OnDriveBut { drive: u8, version: u64 },

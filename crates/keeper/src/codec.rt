@@ -13,7 +13,8 @@ use pieces::{Piece, PieceError};
 use slots::Owner;
 use std::alloc::{AllocError, Global};
 
-// How an object's pieces are made, written and worked out: which object it is, and how many pieces give it back.
+// How an object's pieces are made, written and worked out: which object it is, and how many pieces give it back. `pieces` takes a plain number and refuses; the
+// keeper has one that is never refused.
 #[derive(Clone, Copy)]
 pub struct Codec {
     pub object: u8,

@@ -44,7 +44,7 @@ fn place(
     place: u8,
     bytes: Vec<u8>,
 ) -> Result<Plan, AllocError>
-    ensures { IfOk result (λ d. (reply_of d.answer ≡ reply_of answer) × (map act_of d.effects.items ≡ write_slot drive place bytes.items ∷ [])) }
+    ensures { IfOk result (λ p. (reply_of p.answer ≡ reply_of answer) × (map act_of p.effects.items ≡ write_slot drive place bytes.items ∷ [])) }
 {
     let effects = vec![in heap;
         Effect::Write {

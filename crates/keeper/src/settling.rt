@@ -69,10 +69,8 @@ fn better(
 fn is_higher(version: u64, best: &Option<Candidate>) -> bool
     ensures { result ≡ higher version (found_of best.now) }
 {
-    match best {
-        None => true,
-        Some(candidate) => candidate.version < version,
-    }
+    best.as_ref()
+        .is_none_or(|candidate| candidate.version < version)
 }
 
 // A version was found: it is written anew under the next number, and all pieces but its and the bar's go.

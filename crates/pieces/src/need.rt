@@ -6,7 +6,7 @@ ghost use Rattle.pieces.specs.declared.errors.PieceError.TheVariants.{NeedOutOfR
 use crate::errors::PieceError;
 use crate::making::LAST;
 
-// So many bytes a row has as well. One piece is needed at least, and 31 are at most.
+// 1 to 31 pieces; and so many bytes does a row have.
 #[derive(Clone, Copy)]
 pub struct Need {
     pub count: usize,

@@ -30,7 +30,7 @@ impl Rows {
     }
 }
 
-// The object's length as the first 4 bytes say it.
+// The object's length as the first 4 bytes say it. Rows of fewer bytes have a length too, so no `from_be_bytes`.
 fn length_in(flat: &[u8]) -> usize
     ensures { result ≡ length_in flat.now }
 {

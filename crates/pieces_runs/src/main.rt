@@ -98,53 +98,55 @@ fn ways(heap: Global) -> Result<usize, PieceError> {
     Ok(held(&runs))
 }
 
-// Is what comes of one piece, where `need` give the object back, that refusal.
-fn of_one(
+// Is what comes of these pieces of these drives, where `need` give the object back, that refusal.
+fn is_refused(
     heap: Global,
     need: u8,
-    drive: u8,
-    bytes: &[u8],
+    given: &[(u8, &[u8])],
     refusal: PieceError,
 ) -> Result<bool, PieceError> {
-    let pieces = vec![in heap; found(heap, drive, bytes)?]?;
-    Ok(work_out(heap, need, &pieces).err() == Some(refusal))
-}
-
-// Is what comes of a piece of drive 0 and one of another drive, where `need` give the object back, that refusal.
-fn of_two(
-    heap: Global,
-    need: u8,
-    first: &[u8],
-    drive: u8,
-    second: &[u8],
-    refusal: PieceError,
-) -> Result<bool, PieceError> {
-    let pieces = vec![in heap; found(heap, 0, first)?, found(heap, drive, second)?]?;
+    let mut pieces = Vec::new(heap);
+    for (drive, bytes) in given {
+        pieces.push(found(heap, *drive, bytes)?)?;
+    }
     Ok(work_out(heap, need, &pieces).err() == Some(refusal))
 }
 
 // How many of the refusals of pieces of themselves come.
 fn bad_pieces(heap: Global) -> Result<usize, PieceError> {
     Ok(held(&[
-        of_one(heap, 2, 0, b"five", PieceError::TooFewPieces)?,
-        of_two(heap, 1, b"five", 1, b"five", PieceError::TooManyPieces)?,
-        of_one(heap, 1, 32, b"five", PieceError::DriveOutOfRange)?,
-        of_two(heap, 2, b"five", 1, b"seven", PieceError::DifferentLengths)?,
-        of_two(heap, 2, b"five", 0, b"five", PieceError::SameDrive)?,
+        is_refused(heap, 2, &[(0, b"five")], PieceError::TooFewPieces)?,
+        is_refused(
+            heap,
+            1,
+            &[(0, b"five"), (1, b"five")],
+            PieceError::TooManyPieces,
+        )?,
+        is_refused(heap, 1, &[(32, b"five")], PieceError::DriveOutOfRange)?,
+        is_refused(
+            heap,
+            2,
+            &[(0, b"five"), (1, b"seven")],
+            PieceError::DifferentLengths,
+        )?,
+        is_refused(
+            heap,
+            2,
+            &[(0, b"five"), (0, b"five")],
+            PieceError::SameDrive,
+        )?,
     ]))
 }
 
 // How many of the refusals of the rows behind pieces come. The rows 0, 0; 0, 1; 7, 9 have the values 0, 1, 14 and 0, 2, 21 at the first two drives.
 fn bad_rows(heap: Global) -> Result<usize, PieceError> {
     Ok(held(&[
-        of_one(heap, 1, 0, &[0, 1, 0, 1], PieceError::LengthTooLarge)?,
-        of_one(heap, 1, 0, &[0, 0, 0, 1], PieceError::WrongRowCount)?,
-        of_two(
+        is_refused(heap, 1, &[(0, &[0, 1, 0, 1])], PieceError::LengthTooLarge)?,
+        is_refused(heap, 1, &[(0, &[0, 0, 0, 1])], PieceError::WrongRowCount)?,
+        is_refused(
             heap,
             2,
-            &[0, 1, 14],
-            1,
-            &[0, 2, 21],
+            &[(0, &[0, 1, 14]), (1, &[0, 2, 21])],
             PieceError::NotZeroFilled,
         )?,
     ]))

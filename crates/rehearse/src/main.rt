@@ -18,9 +18,8 @@ use std::process::ExitCode;
 
 // The message is printed here, since what `main` returns would be printed as `Error: ..`. Where a line can't be read or written there is none.
 fn main(rt: HostRuntime) -> ExitCode {
-    let ended = match run(&rt) {
-        Ok(()) => return ExitCode::SUCCESS,
-        Err(ended) => ended,
+    let Err(ended) = run(&rt) else {
+        return ExitCode::SUCCESS;
     };
     let _ = match ended {
         Ended::Setup(e) => eprintln!(rt; "rehearse: {e}"),

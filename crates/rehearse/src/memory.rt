@@ -78,12 +78,11 @@ impl Memory {
 
     // Turns a bit of the piece of a version; false where there is no such piece.
     pub fn spoil(&mut self, owner: Owner, version: u64) -> bool {
-        match self.places(owner) {
-            Some(places) => places
+        self.places(owner).is_some_and(|places| {
+            places
                 .iter_mut()
-                .any(|slot| spoil(slot.as_mut_slice(), owner, version)),
-            None => false,
-        }
+                .any(|slot| spoil(slot.as_mut_slice(), owner, version))
+        })
     }
 
     // The versions that a drive has of an object, in order, each once.
@@ -125,7 +124,9 @@ impl Disks for Memory {
         owner: Owner,
         into: &mut Vec<Entry>,
     ) -> Result<(), Fault> {
-        let places = self.places(owner).ok_or(Fault::DriveFailed(owner.drive))?;
+        let Some(places) = self.places(owner) else {
+            return Ok(());
+        };
         for (place, slot) in (0..).zip(places.iter()) {
             if let Some(entry) = entry_at(heap, slot.as_slice(), owner, place)? {
                 into.push(entry)?;

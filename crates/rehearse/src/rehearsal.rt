@@ -17,11 +17,10 @@ pub struct Rehearsal {
 // The keeper as it starts on these disks. Where there is no file, the drives that are in are looked through, so that a lost file is never taken for a first start.
 fn start(heap: Global, disks: &mut Memory, drives: Drives, need: u8) -> Result<Keeper, Fault> {
     let holds = disks.file().is_none() && holds_any(heap, disks, drives)?;
-    match Keeper::start(heap, drives, need, disks.file(), holds) {
-        Ok(keeper) => Ok(keeper),
-        Err(Refusal::NoMemory) => Err(Fault::NoMemory),
-        Err(_) => Err(Fault::FileFailed),
-    }
+    Keeper::start(heap, drives, need, disks.file(), holds).map_err(|why| match why {
+        Refusal::NoMemory => Fault::NoMemory,
+        _ => Fault::FileFailed,
+    })
 }
 
 impl Rehearsal {

@@ -1,10 +1,7 @@
 // A slot in memory: its bytes from the first on, as many as were ever written; those behind are zeros.
 use keeper::object::Entry;
-use slots::{Owner, SLOT};
+use slots::{HEADER, Owner, SLOT};
 use std::alloc::{AllocError, Global};
-
-// The place of a piece's first byte in a slot.
-const HEADER: usize = 15;
 
 // Writes bytes to the front of a slot. Where the writing is cut, only those at even places get there, and the slot is then held in full, since the length
 // that its header names may be any.

@@ -24,7 +24,8 @@ pub fn nothing(words: &[&[u8]]) -> Result<(), LineError>
     }
 }
 
-// Three, and no `numbers::<N>`: that gives an array, and what a closure makes of an array is not known to the proof of `command`.
+// Three, and no `numbers::<N>`: that gives an array, what a closure makes of an array is not known to the proof of `command`, and with a `let` in each arm
+// that function would be twice as long.
 pub fn one_number(words: &[&[u8]]) -> Result<u64, LineError>
     ensures { result ≡ one_number (map (λ w. w.now) words.now) }
 {

@@ -6,5 +6,5 @@ mod slot;
 mod sum;
 
 pub use laws::{slots_stand, torn_twice};
-pub use slot::{Held, Owner, SLOT, clear, encode, read, record_len, slot_len, write};
+pub use slot::{HEADER, Held, Owner, SLOT, clear, encode, read, record_len, slot_len, write};
 pub use sum::adler;

@@ -15,7 +15,7 @@ pub const SLOT: usize = 65_559;
 const KIND: u8 = 87;
 
 // A record's bytes before its piece, and behind it.
-const HEADER: usize = 15;
+pub const HEADER: usize = 15;
 
 const TRAILER: usize = 4;
 
@@ -135,7 +135,8 @@ fn put(slot: &mut [u8], at: usize, field: &[u8])
     slot[at..at + field.len()].copy_from_slice(field);
 }
 
-// Writes a piece's record at the front of a slot's place, and leaves what lies behind it. Where the place, or a slot, has no room for it: false, and nothing changes.
+// Writes a piece's record at the front of a slot's place, and leaves what lies behind it. Where the place, or a slot, has no room for it: false, and nothing
+// changes.
 #[tactic(auto, unfolding(crate::specs::Slot::written))]
 pub fn write(slot: &mut [u8], owner: Owner, version: u64, piece: &[u8]) -> bool
     ensures answer { result ≡ has_room slot.old piece.now }

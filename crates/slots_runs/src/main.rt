@@ -58,7 +58,7 @@ fn all_sums(rt: &(impl Print + Alloc)) -> io::Result<()> {
     sums(rt, bytes, 2043, 2053)
 }
 
-// Whether it is found that a place of a slot was changed to a value: the slot is another then, and reads as nothing.
+// Whether a slot with this value at a place differs from what was written, and reads as nothing.
 fn is_found(slot: &[u8; SLOT], place: usize, value: u8) -> bool {
     let mut changed = *slot;
     if let Some(byte) = changed.get_mut(place) {

@@ -1,4 +1,5 @@
-// The keeper's steps on an object of the table. Each takes the object's state out of the table and hands it back in its answer.
+// The keeper's steps on an object of the table. Each takes the object's state out of the table and hands it back in its answer. What they share is four lines; a
+// function that takes the step as a parameter would promise by the step's own promise, of a view and a state that it has to describe, and would be longer.
 ghost use Rattle.std.specs.Prelude.{◌≡◌, ◌<◌, ◌≤◌, length, MatchOption};
 ghost use Rattle.drives.specs.Place.{objects};
 ghost use Rattle.keeper.specs.Real.{GivesBy};
@@ -19,11 +20,7 @@ use std::alloc::Global;
 fn object_of(object: u64) -> Option<u8>
     ensures { MatchOption result (objects ≤ object) (λ o. (object < objects) × (o ≡ object)) }
 {
-    if object < OBJECTS as u64 {
-        Some(object as u8)
-    } else {
-        None
-    }
+    (object < OBJECTS as u64).then(|| object as u8)
 }
 
 impl Keeper {

@@ -89,6 +89,7 @@ impl Keeper {
         self.set_in(drive, false)
     }
 
+    // The drive is in from now on, or out, as `is_in` says.
     fn set_in(&mut self, drive: u64, is_in: bool) -> Result<Answer, Refusal>
         ensures answer { told result ≡ (if nat_lt drive self.old.drives.count then done else refused NoSuch) }
         ensures present { self.new.drives.present ≡ set_at self.old.drives.count self.old.drives.present drive is_in }
@@ -98,11 +99,7 @@ impl Keeper {
             return Err(Refusal::NoSuch);
         };
         let mut drives = self.drives;
-        if is_in {
-            drives.put_in(drive);
-        } else {
-            drives.take_out(drive);
-        }
+        drives.set(drive, is_in);
         self.drives = drives;
         Ok(Answer::Done)
     }
@@ -111,11 +108,7 @@ impl Keeper {
     pub fn drive_of(&self, drive: u64) -> Option<u8>
         ensures { MatchOption result (nat_lt drive self.now.drives.count ≡ false) (λ d. (d ≡ drive) × (nat_lt drive self.now.drives.count ≡ true)) }
     {
-        if drive < u64::from(self.drives.count()) {
-            Some(drive as u8)
-        } else {
-            None
-        }
+        (drive < u64::from(self.drives.count())).then(|| drive as u8)
     }
 
     // Takes an object's state out of the table; there it stands as unsure meanwhile.

@@ -50,7 +50,8 @@ fn rows(heap: Global, version: Option<u64>, bars: &[u64]) -> Result<Vec<Row>, Al
 }
 
 impl Keeper {
-    // Starts on these drives, those that are out among them. With a file the keeper comes up; with none it is a first start, unless a drive that is in holds a piece: then the file was lost.
+    // Starts on these drives, those that are out among them. With a file the keeper comes up; with none it is a first start, unless a drive that is in holds
+    // a piece: then the file was lost.
     pub fn start(
         heap: Global,
         drives: Drives,
