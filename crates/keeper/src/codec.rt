@@ -43,10 +43,10 @@ impl Codec {
             object: self.object,
             drive,
         };
-        match slots::encode(heap, owner, version, piece.as_slice())? {
-            Some(record) => Ok(record),
-            None => unreachable(),
-        }
+        let Some(record) = slots::encode(heap, owner, version, piece.as_slice())? else {
+            unreachable()
+        };
+        Ok(record)
     }
 
     // The content of a version, worked out of as many of its pieces as are needed; none where there are fewer, or where they don't work out.

@@ -59,7 +59,7 @@ pub fn how_many_in(present: &[bool]) -> usize
     drives::how_many(present)
 }
 
-// Whether all drives that are in have the version.
+// Whether all drives that are in have the version. A `for`, since the definition begins with the last drive, and `all` with the first.
 pub fn all_have(entries: &[Entry], present: &[bool], version: u64) -> bool
     requires { length present.now ≤ 256 }
     ensures { result ≡ all_have (length present.now) (λ d. slice_index_or present.now d false) version (readings_of entries.now) }
@@ -98,7 +98,8 @@ fn free_place(entries: &[Entry], drive: u8) -> Option<u8>
     None
 }
 
-// A place for a version on a drive: its own, else the lowest that is free.
+// A place for a version on a drive: its own, else the lowest that is free. In the definition's words: `or_else` is as long, and would need a lemma that there is
+// none of its own just where the drive is no holder.
 pub fn place_for(entries: &[Entry], drive: u8, version: u64) -> Option<u8>
     ensures { result ≡ place_for places drive version (readings_of entries.now) }
 {
