@@ -1,4 +1,3 @@
 pub mod Bridge
-pub mod Choose
 pub mod Scan
 pub mod Search

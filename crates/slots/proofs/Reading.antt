@@ -1,10 +1,10 @@
 -- What decides that a slot's bytes read as nothing, or as a piece.
-use Rattle.std.proofs.Common.{◌≡◌, ℕ, ◌+◌, ◌*◌, ◌<◌, ◌≤◌, true, List, length, get_or, take, drop, ap, ◌∙◌, inl, inr, arith}
-use Rattle.std.proofs.lemmas.List.{get_or-take, get_or-drop}
+use Rattle.std.proofs.Common.{◌≡◌, ℕ, ◌+◌, ◌*◌, ◌≤◌, true, List, length, get_or, take, drop, ap, ◌∙◌, inl, inr, arith}
 use Rattle.std.proofs.lemmas.Bool.{cases_Bool, both_ways}
 use Rattle.std.proofs.lemmas.Bool.Decides.{nat_tests}
+use Rattle.slots.proofs.Numbers.{four_at}
 use Rattle.slots.specs.Adler.{adler}
-use Rattle.slots.specs.Layout.{slot_size, around}
+use Rattle.slots.specs.Layout.{slot_size, around, number_at}
 use Rattle.slots.specs.Slot.{empty, holds, fits, read_slot, version_in, length_in, sum_in}
 
 -- All that a record asks.
@@ -46,7 +46,4 @@ fits_from o d v p bytes e =
 -- The number that the four bytes behind the first `n` spell is the record's sum.
 pub sum_behind : (bytes four : List ℕ) (n sum : ℕ) → n ≡ 15 + length_in bytes → four ≡ take 4 (drop n bytes) →
     sum ≡ get_or four 0 0 * 16777216 + get_or four 1 0 * 65536 + get_or four 2 0 * 256 + get_or four 3 0 → sum ≡ sum_in bytes
-sum_behind bytes four n sum en ef es =
-    let byte : (k : ℕ) → k < 4 → get_or four k 0 ≡ get_or bytes (15 + length_in bytes + k) 0 = λ k h.
-    ap (λ l. get_or l k 0) ef ∙ get_or-take 4 (drop n bytes) k 0 h ∙ get_or-drop n bytes k 0 ∙ ap (λ m. get_or bytes (m + k) 0) en in
-    omega (arith, byte 0 (omega arith), byte 1 (omega arith), byte 2 (omega arith), byte 3 (omega arith))
+sum_behind bytes four n sum en ef es = four_at bytes four n sum ef es ∙ ap (λ m. number_at bytes m 4) en

@@ -1,5 +1,4 @@
-use Rattle.std.proofs.Common.{◌≡◌, false, length, get_or, sym, ap, ◌∙◌, arith}
-use Rattle.keeper.specs.Readings.{all_have}
+use Rattle.std.proofs.Common.{false, length, get_or, sym, ◌∙◌}
 use Rattle.keeper.specs.Shown.{readings_of}
 use Rattle.keeper.proofs.Scan.{all_have_none, all_have_more, all_have_not}
 use Rattle.keeper.proofs.readings.all_have.Goals as goal
@@ -13,8 +12,3 @@ loop-drive-preserved c = all_have_more _ _ _ _ (sym c.is_out_or_holder.ensures �
 pub returns-then-not-is_out_or_holder : goal.returns-then-not-is_out_or_holder
 returns-then-not-is_out_or_holder c =
     sym (all_have_not (λ d. get_or c.args.present.now d false) c.args.version (readings_of c.args.entries.now) c.loop-drive.drive (length c.args.present.now) c.loop-drive-test.true (sym c.is_out_or_holder.ensures ∙ c.if-not-is_out_or_holder.true))
-
-pub returns : goal.returns
-returns c =
-    let end : c.loop-drive.drive ≡ length c.args.present.now = omega arith in
-    sym (ap (λ n. all_have n (λ d. get_or c.args.present.now d false) c.args.version (readings_of c.args.entries.now)) (sym end) ∙ c.loop-drive.invariant)
