@@ -1,0 +1,66 @@
+// Says how well an archive is kept: `count DIR`. It only reads, and may run beside `keep`.
+#![tactic(auto)]
+
+use archive::{Archive, Count, Fault};
+use files::{FileDisks, Setup, bring_up, load, open_disks};
+use std::{env, io};
+
+fn main(rt: HostRuntime) -> io::Result<()> {
+    let mut args = env::args(&rt)?;
+    let _program = args.next();
+    match (args.next(), args.next()) {
+        (Some(dir), None) => count_in(rt, dir.as_str()),
+        _ => refused(rt, "usage: count DIR"),
+    }
+}
+
+fn refused(rt: HostRuntime, why: &str) -> io::Result<()> {
+    eprintln!(rt; "count: {why}")?;
+    Err(io::Error::from(io::ErrorKind::InvalidInput))
+}
+
+fn count_in(rt: HostRuntime, dir: &str) -> io::Result<()> {
+    match load(rt, dir)? {
+        Some(setup) => count_on(rt, dir, &setup),
+        None => refused(rt, "there is no archive here"),
+    }
+}
+
+fn count_on(rt: HostRuntime, dir: &str, setup: &Setup) -> io::Result<()> {
+    let mut disks = open_disks(rt, dir, setup, false)?;
+    let keeper = bring_up(&mut disks, setup.sizes.need)?;
+    let mut archive = Archive {
+        heap: rt.alloc(),
+        keeper,
+        disks,
+    };
+    match counted(&mut archive) {
+        Ok(count) => tell(rt, count),
+        Err(fault) => {
+            eprintln!(rt; "count: {fault}")?;
+            Err(io::Error::from(io::ErrorKind::Other))
+        }
+    }
+}
+
+// Counts without the drives that fail: at most 32 do.
+fn counted(archive: &mut Archive<FileDisks>) -> Result<Count, Fault> {
+    for _drive in 0..32 {
+        match archive.count() {
+            Err(Fault::DriveFailed(drive)) => {
+                let _ = archive.keeper.take_out(u64::from(drive));
+            }
+            other => return other,
+        }
+    }
+    archive.count()
+}
+
+fn tell(rt: HostRuntime, count: Count) -> io::Result<()> {
+    let weak = count.weak_line(rt.alloc())?;
+    println!(rt; "{weak}")?;
+    for kept in &count.objects {
+        println!(rt; "{kept}")?;
+    }
+    Ok(())
+}
