@@ -34,12 +34,12 @@ answers() { # NAME TEXT EXPECTED ARGUMENTS..
     verdict "$name" $?
 }
 
-# A start that is refused: status 1, nothing on standard output, these words on standard error.
+# A start that is refused: status 1, nothing on standard output, these words on standard error, and nothing said behind them by Rattle.
 refused() { # NAME WORDS ARGUMENTS..
     local name=$1 words=$2
     shift 2
     printf 'read 1\n' | "$keep" "$@" > out 2> err
-    [ $? = 1 ] && [ ! -s out ] && grep -qF -- "$words" err
+    [ $? = 1 ] && [ ! -s out ] && grep -qF -- "$words" err && ! grep -q '^Error' err
     verdict "$name" $?
 }
 
@@ -106,7 +106,7 @@ refused "pieces, and no file of the keeper's" "refused 8" a
 head -c 2060 /dev/zero > a/next
 refused "a wrong sum in the keeper's file" "refused 8" a
 "$count" no-such-directory > out 2> err
-[ $? = 1 ] && grep -q 'no archive' err
+[ $? = 1 ] && grep -q 'no archive' err && ! grep -q '^Error' err
 verdict "count where there is no archive" $?
 
 # ---- files

@@ -2,10 +2,20 @@
 #![tactic(auto)]
 
 use archive::{Archive, Count, Fault};
-use files::{FileDisks, Setup, bring_up, load, open_disks};
-use std::{env, io};
+use files::{Ended, FileDisks, Setup, bring_up, load, open_disks};
+use std::env;
+use std::process::ExitCode;
 
-fn main(rt: HostRuntime) -> io::Result<()> {
+// The message is printed here, since what `main` returns would be printed as `Error: ..`.
+fn main(rt: HostRuntime) -> ExitCode {
+    let Err(ended) = run(rt) else {
+        return ExitCode::SUCCESS;
+    };
+    ended.tell(rt, "count");
+    ExitCode::FAILURE
+}
+
+fn run(rt: HostRuntime) -> Result<(), Ended> {
     let mut args = env::args(&rt)?;
     let _program = args.next();
     match (args.next(), args.next()) {
@@ -14,19 +24,19 @@ fn main(rt: HostRuntime) -> io::Result<()> {
     }
 }
 
-fn refused(rt: HostRuntime, why: &str) -> io::Result<()> {
+fn refused(rt: HostRuntime, why: &str) -> Result<(), Ended> {
     eprintln!(rt; "count: {why}")?;
-    Err(io::Error::from(io::ErrorKind::InvalidInput))
+    Err(Ended::Told)
 }
 
-fn count_in(rt: HostRuntime, dir: &str) -> io::Result<()> {
+fn count_in(rt: HostRuntime, dir: &str) -> Result<(), Ended> {
     match load(rt, dir)? {
         Some(setup) => count_on(rt, dir, &setup),
         None => refused(rt, "there is no archive here"),
     }
 }
 
-fn count_on(rt: HostRuntime, dir: &str, setup: &Setup) -> io::Result<()> {
+fn count_on(rt: HostRuntime, dir: &str, setup: &Setup) -> Result<(), Ended> {
     let mut disks = open_disks(rt, dir, setup, false)?;
     let keeper = bring_up(&mut disks, setup.sizes.need)?;
     let mut archive = Archive {
@@ -38,7 +48,7 @@ fn count_on(rt: HostRuntime, dir: &str, setup: &Setup) -> io::Result<()> {
         Ok(count) => tell(rt, count),
         Err(fault) => {
             eprintln!(rt; "count: {fault}")?;
-            Err(io::Error::from(io::ErrorKind::Other))
+            Err(Ended::Told)
         }
     }
 }
@@ -56,7 +66,7 @@ fn counted(archive: &mut Archive<FileDisks>) -> Result<Count, Fault> {
     archive.count()
 }
 
-fn tell(rt: HostRuntime, count: Count) -> io::Result<()> {
+fn tell(rt: HostRuntime, count: Count) -> Result<(), Ended> {
     let weak = count.weak_line(rt.alloc())?;
     println!(rt; "{weak}")?;
     for kept in &count.objects {

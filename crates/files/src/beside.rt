@@ -1,4 +1,5 @@
 // Files that are made and replaced so that they last.
+use crate::ended::Ended;
 use std::alloc::{AllocError, Global};
 use std::fs::File;
 use std::io::Write;
@@ -13,11 +14,10 @@ pub fn in_dir(heap: Global, dir: &str, path: &str) -> Result<String, AllocError>
     }
 }
 
-// Says on standard error what is wrong with a path, and hands the error on.
-pub fn told(rt: HostRuntime, path: &str, error: io::Error) -> io::Error {
-    let kind = error.kind();
+// Says on standard error what is wrong with a path.
+pub fn told(rt: HostRuntime, path: &str, error: io::Error) -> Ended {
     let _ = eprintln!(rt; "{path}: {error}");
-    io::Error::from(kind)
+    Ended::Told
 }
 
 // What a directory lists lasts from here on.

@@ -1,6 +1,7 @@
 // The drives' files, each open or not, and the path of the keeper's own file.
 use crate::beside::{parent, sync_dir};
-use crate::record::{clear_record, entry_in, read_record, write_record};
+use crate::record::{clear_record, read_record, write_record};
+use archive::entry_at;
 use drives::{Drives, OBJECTS, PLACES};
 use keeper::object::Entry;
 use slots::{Owner, SLOT};
@@ -106,7 +107,7 @@ impl FileDisks {
     fn entry(&self, heap: Global, owner: Owner, place: u8) -> io::Result<Option<Entry>> {
         let (file, at) = self.slot(owner, place)?;
         let slot = read_record(heap, file, at, owner)?;
-        Ok(entry_in(heap, slot.as_slice(), owner, place)?)
+        Ok(entry_at(heap, slot.as_slice(), owner, place)?)
     }
 
     // Appends the pieces of an object on a drive.

@@ -4,6 +4,7 @@
 mod beside;
 mod disks;
 mod disks_ops;
+mod ended;
 mod opening;
 mod record;
 mod setup;
@@ -11,6 +12,7 @@ mod starting;
 
 pub use beside::{in_dir, sync_dir, told};
 pub use disks::FileDisks;
+pub use ended::Ended;
 pub use opening::{load, make, open_disks};
-pub use setup::{Setup, SetupError, Sizes};
+pub use setup::{Setup, SetupError};
 pub use starting::bring_up;

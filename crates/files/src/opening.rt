@@ -1,12 +1,14 @@
 // The archive's text file read or made, and the drives' files opened. What goes wrong is told on standard error before it is handed on.
 use crate::beside::{in_dir, replace, told};
 use crate::disks::{Drive, FileDisks, make_drive, open_drive};
-use crate::setup::{Setup, Sizes};
+use crate::ended::Ended;
+use crate::setup::Setup;
+use archive::Sizes;
 use std::fs::File;
 use std::{fs, io};
 
 // What the text file in a directory says; none where there is none.
-pub fn load(rt: HostRuntime, dir: &str) -> io::Result<Option<Setup>> {
+pub fn load(rt: HostRuntime, dir: &str) -> Result<Option<Setup>, Ended> {
     let path = in_dir(rt.alloc(), dir, "archive")?;
     match fs::read_to_string(&rt, path.as_str()) {
         Ok(text) => parsed(rt, path.as_str(), text.as_str()),
@@ -18,18 +20,18 @@ pub fn load(rt: HostRuntime, dir: &str) -> io::Result<Option<Setup>> {
     }
 }
 
-fn parsed(rt: HostRuntime, path: &str, text: &str) -> io::Result<Option<Setup>> {
+fn parsed(rt: HostRuntime, path: &str, text: &str) -> Result<Option<Setup>, Ended> {
     match Setup::parse(rt.alloc(), text) {
         Ok(setup) => Ok(Some(setup)),
         Err(e) => {
             eprintln!(rt; "{path}: {e}")?;
-            Err(io::Error::from(io::ErrorKind::InvalidData))
+            Err(Ended::Told)
         }
     }
 }
 
 // Makes the files of a first start: the drives', those that aren't there, and then the text file.
-pub fn make(rt: HostRuntime, dir: &str, sizes: Sizes) -> io::Result<Setup> {
+pub fn make(rt: HostRuntime, dir: &str, sizes: Sizes) -> Result<Setup, Ended> {
     let setup = Setup::usual(rt.alloc(), sizes)?;
     for path in setup.paths.as_slice() {
         let path = in_dir(rt.alloc(), dir, path.as_str())?;
@@ -43,7 +45,7 @@ pub fn make(rt: HostRuntime, dir: &str, sizes: Sizes) -> io::Result<Setup> {
     }
 }
 
-fn make_missing(rt: HostRuntime, path: &str) -> io::Result<()> {
+fn make_missing(rt: HostRuntime, path: &str) -> Result<(), Ended> {
     match make_drive(rt, path) {
         Ok(_file) => Ok(()),
         Err(error) => if error.kind() == io::ErrorKind::AlreadyExists {

@@ -1,15 +1,15 @@
 // A slot's record in a drive's file: only as many bytes are read and written as it has.
-use keeper::object::Entry;
-use slots::Owner;
-use std::alloc::{AllocError, Global};
+ghost use Rattle.std.specs.Prelude.{◌≡◌};
+ghost use Rattle.files.specs.Records.{named};
+
+use slots::{HEADER, Owner};
+use std::alloc::Global;
 use std::fs::File;
 use std::io;
 use std::io::{Read, Seek, SeekFrom, Write};
 
-// The first byte of every record, and how many bytes stand before a piece.
+// The first byte of every record; `named_len` ties it to the definition of a record.
 const KIND: u8 = 87;
-
-const HEADER: u64 = 15;
 
 // Appends the bytes from a place of a file on; what lies past its end isn't there.
 fn read_part(file: &File, at: u64, len: u64, into: &mut Vec<u8>) -> io::Result<()> {
@@ -21,7 +21,9 @@ fn read_part(file: &File, at: u64, len: u64, into: &mut Vec<u8>) -> io::Result<(
 }
 
 // How long the record is that a slot's first bytes name, where it is of that object and drive.
-fn named_len(header: &[u8], owner: Owner) -> Option<usize> {
+fn named_len(header: &[u8], owner: Owner) -> Option<usize>
+    ensures { result ≡ named owner.object owner.drive header.now }
+{
     let [KIND, object, drive, _, _, _, _, _, _, _, _, l0, l1, l2, l3] = header else {
         return None;
     };
@@ -34,12 +36,12 @@ fn named_len(header: &[u8], owner: Owner) -> Option<usize> {
 // The bytes of a slot up to the end of the record that it may hold.
 pub fn read_record(heap: Global, file: &File, at: u64, owner: Owner) -> io::Result<Vec<u8>> {
     let mut bytes = Vec::new(heap);
-    read_part(file, at, HEADER, &mut bytes)?;
+    read_part(file, at, HEADER as u64, &mut bytes)?;
     if let Some(len) = named_len(bytes.as_slice(), owner) {
         read_part(
             file,
-            at.saturating_add(HEADER),
-            (len as u64).saturating_sub(HEADER),
+            at.saturating_add(HEADER as u64),
+            (len as u64).saturating_sub(HEADER as u64),
             &mut bytes,
         )?;
     }
@@ -62,22 +64,4 @@ pub fn clear_record(heap: Global, file: &File, at: u64, owner: Owner) -> io::Res
     } else {
         Ok(())
     }
-}
-
-// The piece that a slot's bytes hold.
-pub fn entry_in(
-    heap: Global,
-    slot: &[u8],
-    owner: Owner,
-    place: u8,
-) -> Result<Option<Entry>, AllocError> {
-    let Some(held) = slots::read(slot, owner) else {
-        return Ok(None);
-    };
-    Ok(Some(Entry {
-        drive: owner.drive,
-        place,
-        version: held.version,
-        piece: Vec::from_slice(heap, held.piece)?,
-    }))
 }

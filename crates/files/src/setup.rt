@@ -1,13 +1,7 @@
 // The archive's text file: how many drives there are, how many of them are needed, and where the file of each lies.
+use archive::{Sizes, SizesError};
 use std::alloc::{AllocError, Global};
 use std::fmt;
-
-// How many drives there are, 2 to 32, and how many of them give an object back.
-#[derive(Clone, Copy, PartialEq, Eq, Debug)]
-pub struct Sizes {
-    pub drives: u8,
-    pub need: u8,
-}
 
 // The path of each drive's file, as a person wrote it: one that doesn't begin with a slash is taken from the archive's directory.
 #[derive(Drop)]
@@ -18,8 +12,7 @@ pub struct Setup {
 
 #[derive(Clone, Copy, PartialEq, Eq, Debug)]
 pub enum SetupError {
-    Drives,
-    Need,
+    Sizes(SizesError),
     // the line, counted from 1
     Line(usize),
     // so many drives are named
@@ -30,12 +23,7 @@ pub enum SetupError {
 impl fmt::Display for SetupError {
     fn fmt<W: fmt::Write>(&self, f: &mut fmt::Formatter<W>) -> fmt::Result {
         match *self {
-            SetupError::Drives => f.write_str(
-                "N, the number of drives, must be a number from 2 to 32",
-            ),
-            SetupError::Need => f.write_str(
-                "NEED, the number of drives that give an object back, must be a number from 1 to N - 1",
-            ),
+            SetupError::Sizes(e) => write!(f, "{e}"),
             SetupError::Line(line) => write!(
                 f,
                 "line {line} is not the one that has to stand there: 'drives N', 'need NEED', then 'drive 0 PATH' and so on"
@@ -49,27 +37,15 @@ impl fmt::Display for SetupError {
     }
 }
 
-impl From<AllocError> for SetupError {
-    fn from(_e: AllocError) -> SetupError {
-        SetupError::NoMemory
+impl From<SizesError> for SetupError {
+    fn from(e: SizesError) -> SetupError {
+        SetupError::Sizes(e)
     }
 }
 
-impl Sizes {
-    // The sizes that these digits give; refused where there may not be so many drives, or so many may not be needed.
-    pub fn new(drives: &str, need: &str) -> Result<Sizes, SetupError> {
-        let drives = script::number(drives.as_bytes()).ok_or(SetupError::Drives)?;
-        let need = script::number(need.as_bytes()).ok_or(SetupError::Need)?;
-        if drives < 2 || drives > 32 {
-            return Err(SetupError::Drives);
-        }
-        if need < 1 || need >= drives {
-            return Err(SetupError::Need);
-        }
-        Ok(Sizes {
-            drives: drives as u8,
-            need: need as u8,
-        })
+impl From<AllocError> for SetupError {
+    fn from(_e: AllocError) -> SetupError {
+        SetupError::NoMemory
     }
 }
 
@@ -126,7 +102,10 @@ impl<'a> Draft<'a> {
             need,
             paths,
         } = self;
-        let sizes = Sizes::new(drives.unwrap_or(""), need.unwrap_or(""))?;
+        let sizes = Sizes::new(
+            drives.unwrap_or("").as_bytes(),
+            need.unwrap_or("").as_bytes(),
+        )?;
         if paths.len() != usize::from(sizes.drives) {
             return Err(SetupError::Named(paths.len()));
         }

@@ -1,6 +1,7 @@
 // The keeper comes up from its file, or starts for the first time.
 use crate::beside::told;
 use crate::disks::FileDisks;
+use crate::ended::Ended;
 use archive::{Fault, holds_any};
 use drives::Drives;
 use keeper::refusal::Refusal;
@@ -8,20 +9,26 @@ use std::{fs, io};
 use table::Keeper;
 
 // The keeper on these drives: from its file, or, where there is none, a first start, if no drive that is in holds a piece.
-pub fn bring_up(disks: &mut FileDisks, need: u8) -> io::Result<Keeper> {
-    let present = disks.present().ok_or(io::ErrorKind::InvalidData)?;
+pub fn bring_up(disks: &mut FileDisks, need: u8) -> Result<Keeper, Ended> {
+    let present = disks
+        .present()
+        .ok_or(io::Error::from(io::ErrorKind::InvalidData))?;
     let file = kept_file(disks)?;
     let holds = file.is_none() && holds_pieces(disks, present)?;
     match Keeper::start(disks.rt.alloc(), present, need, file.as_deref(), holds) {
         Ok(keeper) => Ok(keeper),
-        Err(Refusal::NoMemory) => Err(io::Error::from(io::ErrorKind::OutOfMemory)),
+        Err(Refusal::NoMemory) => Err(no_memory()),
         Err(Refusal::BadFile) => Err(bad_file(disks, holds)),
-        Err(_) => Err(io::Error::from(io::ErrorKind::InvalidData)),
+        Err(_) => Err(Ended::Io(io::Error::from(io::ErrorKind::InvalidData))),
     }
 }
 
+fn no_memory() -> Ended {
+    Ended::Io(io::Error::from(io::ErrorKind::OutOfMemory))
+}
+
 // The keeper's file; none where there is none.
-fn kept_file(disks: &FileDisks) -> io::Result<Option<Vec<u8>>> {
+fn kept_file(disks: &FileDisks) -> Result<Option<Vec<u8>>, Ended> {
     match fs::read(&disks.rt, disks.next.as_str()) {
         Ok(file) => Ok(Some(file)),
         Err(error) => if error.kind() == io::ErrorKind::NotFound {
@@ -33,16 +40,16 @@ fn kept_file(disks: &FileDisks) -> io::Result<Option<Vec<u8>>> {
 }
 
 // Whether a drive that is in holds a piece of any object. A drive that fails was told of.
-fn holds_pieces(disks: &mut FileDisks, present: Drives) -> io::Result<bool> {
+fn holds_pieces(disks: &mut FileDisks, present: Drives) -> Result<bool, Ended> {
     match holds_any(disks.rt.alloc(), disks, present) {
         Ok(holds) => Ok(holds),
-        Err(Fault::NoMemory) => Err(io::Error::from(io::ErrorKind::OutOfMemory)),
-        Err(_) => Err(io::Error::from(io::ErrorKind::Other)),
+        Err(Fault::NoMemory) => Err(no_memory()),
+        Err(_) => Err(Ended::Told),
     }
 }
 
 // Says that the keeper's file was lost, or is damaged.
-fn bad_file(disks: &FileDisks, lost: bool) -> io::Error {
+fn bad_file(disks: &FileDisks, lost: bool) -> Ended {
     let path = disks.next.as_str();
     let why = if lost {
         "the keeper's file is missing, and there are pieces on the drives"
@@ -51,5 +58,5 @@ fn bad_file(disks: &FileDisks, lost: bool) -> io::Error {
     };
     let number = Refusal::BadFile.number();
     let _ = eprintln!(disks.rt; "{path}: {why} (refused {number})");
-    io::Error::from(io::ErrorKind::InvalidData)
+    Ended::Told
 }

@@ -1,6 +1,6 @@
 // One keeper to a directory: while it lives, a file there names its process by number and by the time at which it was started. A file whose process is gone
 // says nothing, and is taken away by the next start. Each makes its own file before it looks for others, so of two that start at once at most one goes on.
-use files::told;
+use files::{Ended, told};
 use std::alloc::AllocError;
 use std::fs::File;
 use std::{fs, io};
@@ -97,7 +97,7 @@ fn claim(rt: HostRuntime, dir: &str, path: &str, own: &str) -> io::Result<Option
 }
 
 // Takes the directory for this process; refused where another keeper lives there.
-pub fn take(rt: HostRuntime, dir: &str) -> io::Result<Lock> {
+pub fn take(rt: HostRuntime, dir: &str) -> Result<Lock, Ended> {
     let own = own_name(rt).map_err(|error| told(rt, "/proc/self/stat", error))?;
     let lock = Lock {
         rt,
@@ -111,13 +111,13 @@ pub fn take(rt: HostRuntime, dir: &str) -> io::Result<Lock> {
 }
 
 impl Lock {
-    fn refuse(&self, dir: &str, name: &str) -> io::Error {
+    fn refuse(&self, dir: &str, name: &str) -> Ended {
         self.release();
         let _ = eprintln!(self.rt; "keep: {dir}: another keep works here, by {name}");
-        io::Error::from(io::ErrorKind::AlreadyExists)
+        Ended::Told
     }
 
-    fn fail(&self, error: io::Error) -> io::Error {
+    fn fail(&self, error: io::Error) -> Ended {
         self.release();
         told(self.rt, self.path.as_str(), error)
     }

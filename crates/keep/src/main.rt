@@ -7,11 +7,13 @@ mod session;
 mod settling;
 mod start;
 
-use files::Sizes;
+use archive::Sizes;
+use files::Ended;
 use session::Session;
 use start::open_archive;
+use std::env;
 use std::io::{BufRead, BufReader};
-use std::{env, io};
+use std::process::ExitCode;
 
 const HELP: &str =
     "keep DIR [N NEED]: keeps an archive of 256 objects on N drives, of which any NEED give every object back.
@@ -38,31 +40,36 @@ Answers begin with 'ok', 'refused' and a number, or 'error:'.";
 enum Asked {
     Help,
     Start { dir: String, sizes: Option<Sizes> },
-    Wrong,
 }
 
-fn main(rt: HostRuntime) -> io::Result<()> {
+// The message is printed here, since what `main` returns would be printed as `Error: ..`.
+fn main(rt: HostRuntime) -> ExitCode {
+    let Err(ended) = answer(rt) else {
+        return ExitCode::SUCCESS;
+    };
+    ended.tell(rt, "keep");
+    ExitCode::FAILURE
+}
+
+fn answer(rt: HostRuntime) -> Result<(), Ended> {
     match arguments(rt)? {
-        Asked::Help => println!(rt; "{HELP}"),
+        Asked::Help => Ok(println!(rt; "{HELP}")?),
         Asked::Start { dir, sizes } => run(rt, dir.as_str(), sizes),
-        Asked::Wrong => Err(io::Error::from(io::ErrorKind::InvalidInput)),
     }
 }
 
-fn arguments(rt: HostRuntime) -> io::Result<Asked> {
+fn arguments(rt: HostRuntime) -> Result<Asked, Ended> {
     let mut args = env::args(&rt)?;
     let _program = args.next();
     match (args.next(), args.next(), args.next(), args.next()) {
         (Some(dir), None, None, None) => Ok(alone(dir)),
-        (Some(dir), Some(drives), Some(need), None) => with_sizes(
-            rt,
+        (Some(dir), Some(drives), Some(need), None) => Ok(Asked::Start {
             dir,
-            drives.as_str(),
-            need.as_str(),
-        ),
+            sizes: Some(Sizes::new(drives.as_bytes(), need.as_bytes())?),
+        }),
         _ => {
             eprintln!(rt; "usage: keep DIR [N NEED], or keep --help")?;
-            Ok(Asked::Wrong)
+            Err(Ended::Told)
         }
     }
 }
@@ -75,20 +82,7 @@ fn alone(dir: String) -> Asked {
     }
 }
 
-fn with_sizes(rt: HostRuntime, dir: String, drives: &str, need: &str) -> io::Result<Asked> {
-    match Sizes::new(drives, need) {
-        Ok(sizes) => Ok(Asked::Start {
-            dir,
-            sizes: Some(sizes),
-        }),
-        Err(e) => {
-            eprintln!(rt; "keep: {e}")?;
-            Ok(Asked::Wrong)
-        }
-    }
-}
-
-fn run(rt: HostRuntime, dir: &str, sizes: Option<Sizes>) -> io::Result<()> {
+fn run(rt: HostRuntime, dir: &str, sizes: Option<Sizes>) -> Result<(), Ended> {
     start::check(rt, dir, sizes)?;
     let lock = lock::take(rt, dir)?;
     let played = match open_archive(rt, dir, sizes) {
@@ -99,7 +93,7 @@ fn run(rt: HostRuntime, dir: &str, sizes: Option<Sizes>) -> io::Result<()> {
     played
 }
 
-fn play(rt: HostRuntime, session: Session) -> io::Result<()> {
+fn play(rt: HostRuntime, session: Session) -> Result<(), Ended> {
     let mut session = session;
     session.summary()?;
     for line in BufReader::new(rt.alloc(), rt.stdin())?.split(rt.alloc(), b'\n') {

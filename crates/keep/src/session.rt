@@ -1,7 +1,7 @@
 // A session: lines played on the archive, and their answers told.
 use crate::own::{Own, own_command};
 use archive::{Archive, Count, Failure, Fault, Reply};
-use files::FileDisks;
+use files::{Ended, FileDisks};
 use keeper::object::Answer;
 use script::Command;
 use std::fs::File;
@@ -28,7 +28,7 @@ fn file_bytes(rt: HostRuntime, path: &str) -> io::Result<Vec<u8>> {
 
 impl Session {
     // Says on standard error how many drives are in, and how many objects are unsure.
-    pub fn summary(&self) -> io::Result<()> {
+    pub fn summary(&self) -> Result<(), Ended> {
         let drives = self.archive.keeper.drives();
         let (count, present, need) = (
             drives.count(),
@@ -58,22 +58,22 @@ impl Session {
         (unsure, barred)
     }
 
-    pub fn play_line(&mut self, line: &[u8]) -> io::Result<()> {
+    pub fn play_line(&mut self, line: &[u8]) -> Result<(), Ended> {
         match std::str::from_utf8(line) {
             Ok(text) => self.play_text(text),
             Err(_) => self.play_script(line),
         }
     }
 
-    fn play_text(&mut self, line: &str) -> io::Result<()> {
+    fn play_text(&mut self, line: &str) -> Result<(), Ended> {
         match own_command(line) {
             Ok(Some(own)) => self.play_own(own),
             Ok(None) => self.play_script(line.as_bytes()),
-            Err(e) => println!(self.rt; "error: {e}"),
+            Err(e) => Ok(println!(self.rt; "error: {e}")?),
         }
     }
 
-    fn play_own(&mut self, own: Own<'_>) -> io::Result<()> {
+    fn play_own(&mut self, own: Own<'_>) -> Result<(), Ended> {
         match own {
             Own::SettleAll => {
                 let settled = self.settle_all();
@@ -85,15 +85,15 @@ impl Session {
         }
     }
 
-    fn play_script(&mut self, line: &[u8]) -> io::Result<()> {
+    fn play_script(&mut self, line: &[u8]) -> Result<(), Ended> {
         match script::parse(self.rt.alloc(), line) {
             Ok(None) => Ok(()),
             Ok(Some(command)) => self.play_command(command),
-            Err(e) => println!(self.rt; "error: {e}"),
+            Err(e) => Ok(println!(self.rt; "error: {e}")?),
         }
     }
 
-    fn play_command(&mut self, command: Command) -> io::Result<()> {
+    fn play_command(&mut self, command: Command) -> Result<(), Ended> {
         match command {
             Command::Count => self.count(),
             Command::In { drive } => self.put_in(drive),
@@ -105,43 +105,43 @@ impl Session {
         }
     }
 
-    fn tell(&mut self, played: Result<Reply, Fault>) -> io::Result<()> {
+    fn tell(&mut self, played: Result<Reply, Fault>) -> Result<(), Ended> {
         match played {
-            Ok(reply) => println!(self.rt; "{reply}"),
+            Ok(reply) => Ok(println!(self.rt; "{reply}")?),
             Err(fault) => self.tell_fault(fault),
         }
     }
 
     // A drive that failed is out; where the keeper's own file failed the program ends.
-    pub fn tell_fault(&mut self, fault: Fault) -> io::Result<()> {
+    pub fn tell_fault(&mut self, fault: Fault) -> Result<(), Ended> {
         if let Fault::DriveFailed(drive) = fault {
             let _ = self.archive.keeper.take_out(u64::from(drive));
         }
         println!(self.rt; "error: {fault}")?;
         if fault == Fault::FileFailed {
-            Err(io::Error::from(io::ErrorKind::Other))
+            Err(Ended::Told)
         } else {
             Ok(())
         }
     }
 
-    fn tell_error(&mut self, path: &str, error: io::Error) -> io::Result<()> {
-        println!(self.rt; "error: {path}: {error}")
+    fn tell_error(&mut self, path: &str, error: io::Error) -> Result<(), Ended> {
+        Ok(println!(self.rt; "error: {path}: {error}")?)
     }
 
     // Opens a drive's file, if it is out, and takes it in.
-    fn put_in(&mut self, number: u64) -> io::Result<()> {
+    fn put_in(&mut self, number: u64) -> Result<(), Ended> {
         if let Some(drive) = self.archive.keeper.drive_of(number)
             && !self.archive.disks.is_open(drive)
             && let Err(error) = self.archive.disks.open(drive)
         {
-            return println!(self.rt; "error: drive {drive} can't be opened: {error}");
+            return Ok(println!(self.rt; "error: drive {drive} can't be opened: {error}")?);
         }
         let played = self.archive.play(Command::In { drive: number });
         self.tell(played)
     }
 
-    fn take_out(&mut self, number: u64) -> io::Result<()> {
+    fn take_out(&mut self, number: u64) -> Result<(), Ended> {
         if let Some(drive) = self.archive.keeper.drive_of(number) {
             self.archive.disks.close(drive);
         }
@@ -150,17 +150,17 @@ impl Session {
     }
 
     // Makes an empty file for a drive, and takes it in.
-    fn make(&mut self, number: u64) -> io::Result<()> {
+    fn make(&mut self, number: u64) -> Result<(), Ended> {
         if let Some(drive) = self.archive.keeper.drive_of(number)
             && let Err(error) = self.archive.disks.make(drive)
         {
-            return println!(self.rt; "error: drive {drive} can't be made: {error}");
+            return Ok(println!(self.rt; "error: drive {drive} can't be made: {error}")?);
         }
         let played = self.archive.play(Command::In { drive: number });
         self.tell(played)
     }
 
-    fn put_file(&mut self, object: u64, path: &str) -> io::Result<()> {
+    fn put_file(&mut self, object: u64, path: &str) -> Result<(), Ended> {
         match file_bytes(self.rt, path) {
             Ok(bytes) => {
                 let played = self.archive.play(Command::Put { object, bytes });
@@ -170,7 +170,7 @@ impl Session {
         }
     }
 
-    fn read_file(&mut self, object: u64, path: &str) -> io::Result<()> {
+    fn read_file(&mut self, object: u64, path: &str) -> Result<(), Ended> {
         match self.archive.read(object) {
             Ok(Answer::Has(version, bytes)) => self.write_file(version, bytes.as_slice(), path),
             Ok(_) => self.tell(Ok(Reply::Nothing)),
@@ -179,21 +179,21 @@ impl Session {
         }
     }
 
-    fn write_file(&mut self, version: u64, bytes: &[u8], path: &str) -> io::Result<()> {
+    fn write_file(&mut self, version: u64, bytes: &[u8], path: &str) -> Result<(), Ended> {
         match fs::write(&self.rt, path, bytes) {
-            Ok(()) => println!(self.rt; "ok version {version}"),
+            Ok(()) => Ok(println!(self.rt; "ok version {version}")?),
             Err(error) => self.tell_error(path, error),
         }
     }
 
-    fn count(&mut self) -> io::Result<()> {
+    fn count(&mut self) -> Result<(), Ended> {
         match self.archive.count() {
             Ok(count) => self.tell_count(count),
             Err(fault) => self.tell_fault(fault),
         }
     }
 
-    fn tell_count(&mut self, count: Count) -> io::Result<()> {
+    fn tell_count(&mut self, count: Count) -> Result<(), Ended> {
         let weak = count.weak_line(self.rt.alloc())?;
         println!(self.rt; "{weak}")?;
         for kept in &count.objects {

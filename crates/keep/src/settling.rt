@@ -1,9 +1,9 @@
 // Settling every object that is unsure.
 use crate::session::Session;
 use archive::{Failure, Fault};
+use files::Ended;
 use keeper::object::Answer;
 use keeper::refusal::Refusal;
-use std::io;
 use std::io::IsTerminal;
 
 // How many objects were written anew, count no version, and were refused.
@@ -80,7 +80,7 @@ impl Session {
         self.archive.finish(object)
     }
 
-    pub fn tell_settled(&mut self, settled: Result<Settled, Fault>) -> io::Result<()> {
+    pub fn tell_settled(&mut self, settled: Result<Settled, Fault>) -> Result<(), Ended> {
         match settled {
             Ok(
                 Settled {
@@ -88,7 +88,7 @@ impl Session {
                     none,
                     refused,
                 },
-            ) => println!(self.rt; "ok found {found} none {none} refused {refused}"),
+            ) => Ok(println!(self.rt; "ok found {found} none {none} refused {refused}")?),
             Err(fault) => self.tell_fault(fault),
         }
     }

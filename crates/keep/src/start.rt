@@ -1,12 +1,12 @@
 // A first start, or one on an archive that is there. What goes wrong is told on standard error before it is handed on.
 use crate::session::Session;
-use archive::Archive;
-use files::{Setup, Sizes, bring_up, load, make, open_disks, sync_dir, told};
+use archive::{Archive, Sizes};
+use files::{Ended, Setup, bring_up, load, make, open_disks, sync_dir, told};
 use std::{fs, io};
 
-fn refused(rt: HostRuntime, dir: &str, why: &str) -> io::Error {
+fn refused(rt: HostRuntime, dir: &str, why: &str) -> Ended {
     let _ = eprintln!(rt; "keep: {dir}: {why}");
-    io::Error::from(io::ErrorKind::InvalidInput)
+    Ended::Told
 }
 
 fn agree(setup: &Setup, sizes: Option<Sizes>) -> bool {
@@ -14,7 +14,7 @@ fn agree(setup: &Setup, sizes: Option<Sizes>) -> bool {
 }
 
 // What the archive's text file says; none where there is none. Refused where N and NEED are others, or there is neither.
-fn known(rt: HostRuntime, dir: &str, sizes: Option<Sizes>) -> io::Result<Option<Setup>> {
+fn known(rt: HostRuntime, dir: &str, sizes: Option<Sizes>) -> Result<Option<Setup>, Ended> {
     let found = load(rt, dir)?;
     match &found {
         Some(setup) => if !agree(setup, sizes) {
@@ -31,16 +31,16 @@ fn known(rt: HostRuntime, dir: &str, sizes: Option<Sizes>) -> io::Result<Option<
     Ok(found)
 }
 
-fn others(rt: HostRuntime, dir: &str, sizes: Sizes) -> io::Error {
+fn others(rt: HostRuntime, dir: &str, sizes: Sizes) -> Ended {
     let Sizes { drives, need } = sizes;
     let _ = eprintln!(rt;
         "keep: {dir}: this archive has {drives} drives, and {need} are needed; leave N and NEED out, or give these"
     );
-    io::Error::from(io::ErrorKind::InvalidInput)
+    Ended::Told
 }
 
 // Whether a start may go on; where it is the first, its directory is made. Nothing else is touched.
-pub fn check(rt: HostRuntime, dir: &str, sizes: Option<Sizes>) -> io::Result<()> {
+pub fn check(rt: HostRuntime, dir: &str, sizes: Option<Sizes>) -> Result<(), Ended> {
     if dir.is_empty() {
         return Err(refused(rt, dir, "DIR must not be empty"));
     }
@@ -57,7 +57,7 @@ fn make_dir(rt: HostRuntime, dir: &str) -> io::Result<()> {
 }
 
 // Opens the archive, or makes it.
-pub fn open_archive(rt: HostRuntime, dir: &str, sizes: Option<Sizes>) -> io::Result<Session> {
+pub fn open_archive(rt: HostRuntime, dir: &str, sizes: Option<Sizes>) -> Result<Session, Ended> {
     let setup = match (known(rt, dir, sizes)?, sizes) {
         (Some(setup), _) => setup,
         (None, Some(sizes)) => make(rt, dir, sizes)?,
