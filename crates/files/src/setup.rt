@@ -153,3 +153,65 @@ impl Setup {
         Ok(text)
     }
 }
+
+#[cfg(test)]
+mod tests {
+    use super::*;
+    use std::test::Fail;
+
+    // Whether the text of a first start gives its setup back. No contract says so.
+    fn comes_back(heap: Global, drives: &[u8], need: &[u8]) -> Result<bool, Fail> {
+        let sizes = Sizes::new(drives, need).ok().ok_or("such sizes may be")?;
+        let setup = Setup::usual(heap, sizes)?;
+        let text = setup.text(heap)?;
+        let read = Setup::parse(heap, text.as_str())
+            .ok()
+            .ok_or("the text is read")?;
+        let mut same = read.sizes == sizes && read.paths.len() == usize::from(sizes.drives);
+        for (found, written) in read.paths.iter().zip(setup.paths.iter()) {
+            same = same && found.as_str() == written.as_str();
+        }
+        Ok(same)
+    }
+
+    #[test]
+    fn the_fewest_drives_come_back(rt: HostRuntime) -> Result<(), Fail> {
+        assert!(rt; comes_back(rt.alloc(), b"2", b"1")?);
+        Ok(())
+    }
+
+    #[test]
+    fn the_most_drives_come_back(rt: HostRuntime) -> Result<(), Fail> {
+        assert!(rt; comes_back(rt.alloc(), b"32", b"31")?);
+        Ok(())
+    }
+
+    #[test]
+    fn a_wrong_text_is_refused_by_what_is_wrong(rt: HostRuntime) -> Result<(), Fail> {
+        let cases = [
+            ("", SetupError::Sizes(SizesError::Drives)),
+            ("drives 33\nneed 2\n", SetupError::Sizes(SizesError::Drives)),
+            ("drives 2\nneed 2\n", SetupError::Sizes(SizesError::Need)),
+            ("need 1\n", SetupError::Line(1)),
+            ("# said first\n\ndrives 2\nneeds 1\n", SetupError::Line(4)),
+            (
+                "drives 3\nneed 2\ndrive 0 a\ndrive 2 c\n",
+                SetupError::Line(4),
+            ),
+            (
+                "drives 2\nneed 1\ndrive 0\ndrive 1 b\n",
+                SetupError::Line(3),
+            ),
+            ("drives 2\nneed 1\ndrive 0 a\n", SetupError::Named(1)),
+            (
+                "drives 2\nneed 1\ndrive 0 a\ndrive 1 b\ndrive 2 c\n",
+                SetupError::Named(3),
+            ),
+        ];
+        for (text, error) in &cases {
+            let refused = Setup::parse(rt.alloc(), text).err();
+            assert!(rt; refused == Some(*error), "{text}");
+        }
+        Ok(())
+    }
+}
