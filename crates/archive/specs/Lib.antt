@@ -1,1 +1,3 @@
 pub mod Deeds
+pub mod Entries
+pub mod Sizes

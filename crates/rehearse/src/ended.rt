@@ -1,19 +1,19 @@
 // Why the program ends before its input does.
-use crate::setup::SetupError;
-use archive::Fault;
+use archive::{Fault, SizesError};
 use std::alloc::AllocError;
 use std::io;
 
 #[derive(Drop)]
 pub enum Ended {
-    Setup(SetupError),
+    Usage,
+    Sizes(SizesError),
     Fault(Fault),
     Io(io::Error),
 }
 
-impl From<SetupError> for Ended {
-    fn from(e: SetupError) -> Ended {
-        Ended::Setup(e)
+impl From<SizesError> for Ended {
+    fn from(e: SizesError) -> Ended {
+        Ended::Sizes(e)
     }
 }
 

@@ -4,14 +4,12 @@
 mod ended;
 mod memory;
 mod rehearsal;
-mod setup;
 mod slot;
 
-use archive::{Fault, Reply};
+use archive::{Fault, Reply, Sizes};
 use ended::Ended;
 use rehearsal::Rehearsal;
 use script::Command;
-use setup::{Setup, SetupError, set_up};
 use std::env;
 use std::io::{BufRead, BufReader};
 use std::process::ExitCode;
@@ -22,7 +20,8 @@ fn main(rt: HostRuntime) -> ExitCode {
         return ExitCode::SUCCESS;
     };
     let _ = match ended {
-        Ended::Setup(e) => eprintln!(rt; "rehearse: {e}"),
+        Ended::Usage => eprintln!(rt; "rehearse: usage: rehearse N NEED"),
+        Ended::Sizes(e) => eprintln!(rt; "rehearse: {e}"),
         Ended::Fault(fault) => eprintln!(rt; "rehearse: {fault}"),
         Ended::Io(e) => Err(e),
     };
@@ -38,13 +37,13 @@ fn run(rt: &HostRuntime) -> Result<(), Ended> {
     Ok(())
 }
 
-fn arguments(rt: &HostRuntime) -> Result<Setup, Ended> {
+fn arguments(rt: &HostRuntime) -> Result<Sizes, Ended> {
     let mut args = env::args(rt)?;
     let _program = args.next();
     let (Some(drives), Some(need), None) = (args.next(), args.next(), args.next()) else {
-        return Err(Ended::Setup(SetupError::Usage));
+        return Err(Ended::Usage);
     };
-    Ok(set_up(drives.as_bytes(), need.as_bytes())?)
+    Ok(Sizes::new(drives.as_bytes(), need.as_bytes())?)
 }
 
 fn play_line(rt: &HostRuntime, rehearsal: &mut Rehearsal, line: &[u8]) -> Result<(), Ended> {

@@ -1,6 +1,6 @@
 // Drives in memory, and the keeper's file, with a stop that may wait.
-use crate::slot::{clear_over, entry_at, spoil, version_at, write_over};
-use archive::{Disks, Fault};
+use crate::slot::{clear_over, spoil, version_at, write_over};
+use archive::{Disks, Fault, entry_at};
 use drives::{OBJECTS, PLACES};
 use keeper::object::Entry;
 use script::StopAt;

@@ -1,7 +1,6 @@
 // A rehearsal: the archive on drives in memory, and what is done to it from outside.
 use crate::memory::Memory;
-use crate::setup::Setup;
-use archive::{Archive, Fault, Reply, holds_any};
+use archive::{Archive, Fault, Reply, Sizes, holds_any};
 use drives::Drives;
 use keeper::refusal::Refusal;
 use script::{Command, StopAt};
@@ -24,10 +23,10 @@ fn start(heap: Global, disks: &mut Memory, drives: Drives, need: u8) -> Result<K
 }
 
 impl Rehearsal {
-    pub fn new(heap: Global, setup: Setup) -> Result<Rehearsal, Fault> {
-        let mut disks = Memory::empty(heap, setup.drives)?;
-        let drives = Drives::new(setup.drives).ok_or(Fault::FileFailed)?;
-        let keeper = start(heap, &mut disks, drives, setup.need)?;
+    pub fn new(heap: Global, sizes: Sizes) -> Result<Rehearsal, Fault> {
+        let mut disks = Memory::empty(heap, sizes.drives)?;
+        let drives = Drives::new(sizes.drives).ok_or(Fault::FileFailed)?;
+        let keeper = start(heap, &mut disks, drives, sizes.need)?;
         Ok(Rehearsal {
             archive: Archive {
                 heap,

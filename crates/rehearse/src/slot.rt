@@ -1,7 +1,6 @@
 // A slot in memory: its bytes from the first on, as many as were ever written; those behind are zeros.
-use keeper::object::Entry;
 use slots::{HEADER, Owner, SLOT};
-use std::alloc::{AllocError, Global};
+use std::alloc::AllocError;
 
 // Writes bytes to the front of a slot. Where the writing is cut, only those at even places get there, and the slot is then held in full, since the length
 // that its header names may be any.
@@ -46,24 +45,6 @@ fn record_len(slot: &[u8], owner: Owner) -> usize {
     slots::read(slot, owner)
         .and_then(|held| slots::record_len(held.piece.len()))
         .unwrap_or(0)
-}
-
-// The piece that a slot holds, in bytes of its own.
-pub fn entry_at(
-    heap: Global,
-    slot: &[u8],
-    owner: Owner,
-    place: u8,
-) -> Result<Option<Entry>, AllocError> {
-    let Some(held) = slots::read(slot, owner) else {
-        return Ok(None);
-    };
-    Ok(Some(Entry {
-        drive: owner.drive,
-        place,
-        version: held.version,
-        piece: Vec::from_slice(heap, held.piece)?,
-    }))
 }
 
 // The version that a slot holds.
