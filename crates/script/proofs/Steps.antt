@@ -1,9 +1,9 @@
 -- What one turn of a loop over digits keeps, and that hexadecimal digits read as what they were written of.
-use Rattle.std.proofs.Common.{◌≡◌, ℕ, ◌+◌, ◌-◌, ◌*◌, ◌/◌, ◌%◌, ◌^◌, ◌<◌, ◌≤◌, min, true, false, cond, ◌&&◌, leb, List, [], ◌∷◌, ◌++◌, length, get_or, drop, Some, None, Ok, Err, Result, sym, refl, ap, ◌∙◌, ⊎_elim, append_assoc, arith}
+use Rattle.std.proofs.Common.{◌≡◌, ℕ, ◌+◌, ◌-◌, ◌*◌, ◌/◌, ◌%◌, ◌^◌, ◌<◌, ◌≤◌, min, true, cond, ◌&&◌, eqb, leb, List, [], ◌∷◌, ◌++◌, length, get_or, slice_index, drop, Some, None, Ok, Err, Result, sym, refl, ap, ◌∙◌, ⊎_elim, append_assoc, arith}
 use Rattle.std.proofs.lemmas.List.{at_drop_more}
-use Rattle.std.proofs.lemmas.Bool.{cases_lt, lt-ltb, le-ltb, le-leb, lt-leb}
-use Rattle.std.specs.Fmt.{digit_glyph}
+use Rattle.std.proofs.lemmas.Bool.{agree_below_at, cases_lt, eqb-true, lt-ltb, le-ltb, le-leb, lt-leb}
 use Rattle.std.specs.List.{AllByRecursion}
+use Rattle.hex.specs.Hex.{encode_lower, encode_with, lower_digits}
 use Rattle.script.specs.declared.error.LineError.{LineError}
 use Rattle.script.specs.Digits.{decimal, nibble, byte_of, before, from_hex, symbol, to_hex}
 
@@ -28,17 +28,15 @@ saturated n d ds =
     (λ high. capped _ _ (omega arith) (omega arith) ds)
     (cases_lt (n * 10 + d) (2 ^ 64 - 1))
 
--- the library's digit in lower case
-lower_glyph : (x : ℕ) → digit_glyph false x ≡ symbol x
-lower_glyph x =
-    ⊎_elim
-    (λ low. rw (lt-ltb x 10 low))
-    (λ high. rw (le-ltb x 10 high) (omega arith))
-    (cases_lt x 10)
+-- the library's digits, of which antt computes the sixteen
+library_digit : (x : ℕ) → x < 16 → slice_index lower_digits x ≡ symbol x
+library_digit x h = eqb-true (slice_index lower_digits x) (symbol x) (agree_below_at (λ n. eqb (slice_index lower_digits n) (symbol n)) (λ n. true) 16 x refl h)
 
-pub to_hex_push : (xs : List ℕ) (b : ℕ) → to_hex xs ++ digit_glyph false (b / 16) ∷ digit_glyph false (b % 16) ∷ [] ≡ to_hex (xs ++ b ∷ [])
-to_hex_push [] b = rw (lower_glyph (b / 16), lower_glyph (b % 16))
-to_hex_push (x ∷ xs) b = ap (λ r. symbol (x / 16) ∷ symbol (x % 16) ∷ r) (to_hex_push xs b)
+-- hexadecimal digits as the library writes them
+pub library_hex : (xs : List ℕ) → AllByRecursion (λ b. b < 256) xs → encode_lower xs ≡ to_hex xs
+unfolding encode_with
+library_hex [] h = refl
+library_hex (x ∷ xs) (h, hs) = rw (library_digit (x / 16) (omega arith), library_digit (x % 16) (omega arith), library_hex xs hs) refl
 
 module _ (n i : ℕ) (s : List ℕ) (inside : i < length s) where
   pub number_step : (leb 48 (get_or s i 0) && leb (get_or s i 0) 57) ≡ true → decimal (min (min (n * 10) (2 ^ 64 - 1) + (get_or s i 0 - 48)) (2 ^ 64 - 1)) (drop (i + 1) s) ≡ decimal n (drop i s)

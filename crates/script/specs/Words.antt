@@ -26,3 +26,8 @@ after line = back (trimmed line)
 abbrev pub first_words : ℕ → List ℕ → List (List ℕ)
 first_words zero line = []
 first_words (suc n) line = cond (length (word line) == 0) [] (word line ∷ first_words n (after line))
+
+-- The first `n` words of a line, each empty where there is none.
+abbrev pub words_of : ℕ → List ℕ → List (List ℕ)
+words_of zero line = []
+words_of (suc n) line = word line ∷ words_of n (after line)

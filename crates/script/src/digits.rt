@@ -72,9 +72,5 @@ pub fn hex(heap: Global, bytes: &[u8]) -> Result<String, AllocError>
     ensures written { IfOk result (λ s. string_bytes s ≡ to_hex bytes.now) }
     ensures read_back { IfOk result (λ s. from_hex (string_bytes s) ≡ Ok bytes.now) }
 {
-    let mut text = String::new(heap);
-    for b in bytes {
-        write!(text, "{b:02x}")?;
-    }
-    Ok(text)
+    hex::encode(heap, bytes)
 }
