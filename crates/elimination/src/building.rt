@@ -52,7 +52,11 @@ impl Matrix {
         requires { c < self.now.width }
         ensures { OnOk result (out.new.items ≡ out.old.items ++ column self.now.rows self.now.width self.now.cells.items c) }
     {
-        out.extend((0..self.rows).map(|i| self.entry(i, c)))
+        // One by one: a call of `extend` for each column costs as much again where there are few rows.
+        for i in 0..self.rows {
+            out.push(self.entry(i, c))?;
+        }
+        Ok(())
     }
 
     // The columns past the square at the front, one after the other. `size` is how many bytes that makes.

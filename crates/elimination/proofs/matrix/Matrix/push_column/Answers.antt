@@ -1,15 +1,17 @@
--- The entries that the chain gives are the column.
-use Rattle.std.proofs.Common.{ℕ, List, rules, arith}
-use Rattle.std.proofs.lemmas.Iterator.{YieldsList-from_range, YieldsList-from_map}
-use Rattle.std.proofs.lemmas.Iterator.Adapters.{items_from_extend}
-use Rattle.elimination.specs.Matrix.{cell}
+-- One entry more is pushed.
+use Rattle.std.proofs.Common.{ℕ, List, [], ◌∷◌, ◌++◌, vec_items, sym, ap, ◌∙◌, arith}
+use Rattle.std.proofs.lemmas.List.{append-nil}
+use Rattle.elimination.specs.Matrix.{cell, column}
+use Rattle.elimination.proofs.Blocks.{counted_more}
 use Rattle.elimination.proofs.matrix.Matrix.push_column.Goals as goal
 
-pub returns : goal.returns
-returns c =
+pub loop-i-init : goal.loop-i-init
+loop-i-init c = sym (append-nil (vec_items c.args.out.now))
+
+pub loop-i-preserved : goal.loop-i-preserved
+loop-i-preserved c =
     let w : ℕ = c.args.self.now.width in
     let m : List ℕ = c.args.self.now.cells.items in
-    let h =
-    items_from_extend c.extend.result c.extend.ensures.ran
-    (YieldsList-from_map _ (λ i. cell w m i c.args.c) (YieldsList-from_range 0 c.args.self.now.rows c.args.self.now.rows c.map.ensures.source (omega arith)) c.map.ensures.closure (λ x r q k. search rules)) in
-    search rules
+    c.in_ok-push.ensures.items ∙ ap (λ (l : List ℕ). l ++ c.entry.result ∷ []) c.loop-i.invariant
+    ∙ ap (λ (x : ℕ). (vec_items c.args.out.now ++ column c.loop-i.i w m c.args.c) ++ x ∷ []) c.entry.ensures
+    ∙ counted_more (vec_items c.args.out.now) (λ i. cell w m i c.args.c) c.loop-i.i
