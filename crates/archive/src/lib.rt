@@ -20,5 +20,6 @@ pub use entry::entry_at;
 pub use fault::{Failure, Fault};
 pub use holding::holds_any;
 pub use many::Healed;
+pub use perform::perform_all;
 pub use reply::Reply;
 pub use sizes::{Sizes, SizesError};

@@ -10,52 +10,78 @@ use crate::disks::Disks;
 use crate::fault::Fault;
 use keeper::object::Effect;
 use slots::Owner;
+use std::alloc::Global;
+use table::Keeper;
+
+// The keeper's file with this number, and with this bar for the object, takes the place of the one before.
+fn replace_file<D: Disks>(
+    heap: Global,
+    keeper: &Keeper,
+    disks: &mut D,
+    object: u8,
+    number: u64,
+    bar: u64,
+) -> Result<(), Fault>
+    ensures { is_ok result ≡ true → D.Disks.does (replaced (file_of number (slice_set (bars_of keeper.now) object bar))) disks.old disks.new }
+{
+    let bytes = keeper.file(heap, object, number, bar)?;
+    disks.replace_file(&bytes)
+}
+
+fn perform_one<D: Disks>(
+    heap: Global,
+    keeper: &Keeper,
+    disks: &mut D,
+    object: u8,
+    effect: &Effect,
+) -> Result<(), Fault>
+    ensures { is_ok result ≡ true → D.Disks.does (deed_of (bars_of keeper.now) object (act_of effect.now)) disks.old disks.new }
+{
+    match effect {
+        Effect::Write {
+            drive,
+            place,
+            bytes,
+        } => {
+            let owner = Owner {
+                object,
+                drive: *drive,
+            };
+            disks.write(owner, *place, bytes)
+        }
+        Effect::Clear { drive, place } => {
+            let owner = Owner {
+                object,
+                drive: *drive,
+            };
+            disks.clear(owner, *place)
+        }
+        Effect::Replace { number, bar } => replace_file(heap, keeper, disks, object, *number, *bar),
+    }
+}
+
+// Does the effects one by one, each once the one before is done, up to the first that fails.
+pub fn perform_all<D: Disks>(
+    heap: Global,
+    keeper: &Keeper,
+    disks: &mut D,
+    object: u8,
+    effects: &[Effect],
+) -> Result<(), Fault>
+    ensures { is_ok result ≡ true → Leads D.Disks.does (deeds_of (bars_of keeper.now) object effects.now) disks.old disks.new }
+{
+    for effect in effects {
+        perform_one(heap, keeper, disks, object, effect)?;
+    }
+    Ok(())
+}
 
 impl<D: Disks> Archive<D> {
-    // The keeper's file with this number, and with this bar for the object, takes the place of the one before.
-    fn replace_file(&mut self, object: u8, number: u64, bar: u64) -> Result<(), Fault>
-        ensures done { is_ok result ≡ true → D.Disks.does (replaced (file_of number (slice_set (bars_of self.old.keeper) object bar))) self.old.disks self.new.disks }
-        ensures keeper { self.new.keeper ≡ self.old.keeper }
-    {
-        let bytes = self.keeper.file(self.heap, object, number, bar)?;
-        self.disks.replace_file(&bytes)
-    }
-
-    fn perform(&mut self, object: u8, effect: &Effect) -> Result<(), Fault>
-        ensures done { is_ok result ≡ true → D.Disks.does (deed_of (bars_of self.old.keeper) object (act_of effect.now)) self.old.disks self.new.disks }
-        ensures keeper { self.new.keeper ≡ self.old.keeper }
-    {
-        match effect {
-            Effect::Write {
-                drive,
-                place,
-                bytes,
-            } => {
-                let owner = Owner {
-                    object,
-                    drive: *drive,
-                };
-                self.disks.write(owner, *place, bytes)
-            }
-            Effect::Clear { drive, place } => {
-                let owner = Owner {
-                    object,
-                    drive: *drive,
-                };
-                self.disks.clear(owner, *place)
-            }
-            Effect::Replace { number, bar } => self.replace_file(object, *number, *bar),
-        }
-    }
-
-    // Does the effects one by one, each once the one before is done, up to the first that fails.
+    // The same on the archive's own disks, with its own heap; the keeper stays as it is.
     pub fn perform_all(&mut self, object: u8, effects: &[Effect]) -> Result<(), Fault>
         ensures done { is_ok result ≡ true → Leads D.Disks.does (deeds_of (bars_of self.old.keeper) object effects.now) self.old.disks self.new.disks }
         ensures keeper { self.new.keeper ≡ self.old.keeper }
     {
-        for effect in effects {
-            self.perform(object, effect)?;
-        }
-        Ok(())
+        perform_all(self.heap, &self.keeper, &mut self.disks, object, effects)
     }
 }
