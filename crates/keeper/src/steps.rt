@@ -6,6 +6,7 @@ ghost use Rattle.keeper.specs.Shown.{content_of, state_of, outcome_of, planned_o
 ghost use Rattle.keeper.specs.Steps.{begin as begin_of, reserve as reserve_of, writing_on, finish as finish_of, take_away, tidy as tidy_of, sweep as sweep_of, give_up};
 
 use crate::clearing::{Rule, clears};
+pub use crate::object::LAST_NUMBER;
 use crate::object::{Answer, Effect, Known, Object, Step};
 pub use crate::plan::refuse;
 use crate::plan::{Plan, step_keeping_state, step_or_refusal};
